@@ -1,0 +1,4 @@
+pub mod Equations
+pub mod Feeds
+pub mod Simulates
+pub mod Correct
