@@ -61,6 +61,10 @@ count_of m k = slice_index m (place_of k)
 abbrev pub with_count : List ℕ → LimitKind → ℕ → List ℕ
 with_count m k n = slice_set m (place_of k) n
 
+-- the meter of a request that begins
+abbrev pub no_counts : List ℕ
+no_counts = 0 ∷ 0 ∷ 0 ∷ 0 ∷ 0 ∷ 0 ∷ 0 ∷ 0 ∷ []
+
 -- the meter has the counters of these charges and leaves, and nothing was left that wasn't charged before
 pub record Counts (es : List Entry) (m : List ℕ) : Type 0 where
   pub each : (k : LimitKind) → count_of m k ≡ counter k es

@@ -6,7 +6,7 @@
 
 ghost use Rattle.std.specs.Prelude.{◌≡◌, ◌+◌, ◌-◌, ◌<◌, ◌≤◌, ◌∷◌, ◌⊎◌, [], List, MatchResult, OnOk, OnErr, IfErr};
 ghost use Rattle.apex_num.specs.declared.kind.LimitKind.TheVariants.{Depth, Calls};
-ghost use Rattle.limit_meter.specs.Charges.{limit_of, place_of, count_of, with_count, counter, Entry, Charged, Left, Counts};
+ghost use Rattle.limit_meter.specs.Charges.{limit_of, place_of, count_of, with_count, no_counts, counter, Entry, Charged, Left, Counts};
 
 use apex_num::LimitKind;
 use std::marker::Model;
@@ -63,7 +63,8 @@ fn place(kind: LimitKind) -> usize
 impl Meter {
     /// The meter of a request that begins: every counter is 0.
     pub fn new() -> Meter
-        ensures { Counts [] result }
+        ensures zero { result ≡ no_counts }
+        ensures listed { Counts [] result }
     {
         Meter { counts: [0; 8] }
     }
