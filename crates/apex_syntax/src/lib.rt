@@ -7,4 +7,4 @@
 mod tree;
 pub mod typed;
 
-pub use tree::{Block, Expr, Link, Op, Stmt};
+pub use tree::{Block, Chain, Link, Op, Product, ProductOp, Stmt, Sum, SumOp, Tail, Unary};

@@ -1,0 +1,5 @@
+pub mod Bools
+pub mod Digits
+pub mod Gaps
+pub mod Signs
+pub mod Pieces

@@ -1,0 +1,9 @@
+//! The front end of small blocks: from bytes to a typed block.
+//!
+//! It gives way to the lexer, the parsers and the checker of the whole language.
+#![tactic(auto)]
+
+mod lex;
+mod token;
+
+pub use token::Token;
