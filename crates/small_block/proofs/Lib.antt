@@ -1,5 +1,9 @@
 pub mod Bools
+pub mod Chains
 pub mod Digits
+pub mod Exprs
 pub mod Gaps
+pub mod Resolves
 pub mod Signs
+pub mod Stmts
 pub mod Pieces

@@ -73,11 +73,18 @@ product_depth c = chain_depth (chain_onto unary_depth c)
 abbrev pub sum_depth : Chain SumOp (Chain ProductOp Unary) → ℕ
 sum_depth c = chain_depth (chain_onto product_depth c)
 
+-- what stands before the expression of a statement
+abbrev pub debug_head : List Token → List Token
+debug_head ts = Word (codes "system") ∷ Dot ∷ Word (codes "debug") ∷ Open ∷ ts
+
+abbrev pub declare_head : List ℕ → List Token → List Token
+declare_head x ts = Word (codes "integer") ∷ Word x ∷ Equals ∷ ts
+
 -- a statement; the nesting at a token is at most 64, and the parenthesis of System.debug counts
 abbrev pub stmt_tokens : Stmt → List Token
 stmt_tokens Empty = Semi ∷ []
-stmt_tokens (Debug e) = Word (codes "system") ∷ Dot ∷ Word (codes "debug") ∷ Open ∷ (sum_tokens e ++ Close ∷ Semi ∷ [])
-stmt_tokens (Declare x e) = Word (codes "integer") ∷ Word x ∷ Equals ∷ (sum_tokens e ++ Semi ∷ [])
+stmt_tokens (Debug e) = debug_head (sum_tokens e ++ Close ∷ Semi ∷ [])
+stmt_tokens (Declare x e) = declare_head x (sum_tokens e ++ Semi ∷ [])
 
 abbrev pub FitsNesting : Stmt → Type 0
 FitsNesting Empty = Unit {0}

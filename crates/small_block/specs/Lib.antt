@@ -1,3 +1,6 @@
 pub mod Tokens
 pub mod Lexing
 pub mod Grammar
+pub mod Reading
+pub mod Typing
+pub mod SmallBlocks

@@ -4,6 +4,8 @@
 #![tactic(auto)]
 
 mod lex;
+mod parse;
+mod resolve;
 mod token;
 
 pub use token::Token;
