@@ -5,5 +5,6 @@ pub mod Exprs
 pub mod Gaps
 pub mod Resolves
 pub mod Signs
+pub mod Slots
 pub mod Stmts
 pub mod Pieces

@@ -81,6 +81,9 @@ pub record Scoped : Type 0 where
   pub scope : List (List ℕ)
   pub done : List Typed
 
+abbrev pub scoped : List (List ℕ) → List Typed → Scoped
+scoped scope done = record { scope = scope; done = done }
+
 abbrev pub with_stmt : Scoped → List (List ℕ) → (Expr → Typed) → Option Expr → Option Scoped
 with_stmt s names make None = None
 with_stmt s names make (Some e) = Some (record { scope = s.scope ++ names; done = s.done ++ make e ∷ [] })
@@ -103,4 +106,4 @@ finished (Some s) = Some (record { locals = length s.scope; stmts = s.done })
 
 -- the typed block of a tree, where it is well typed
 abbrev pub block_typed : List Stmt → Option Block
-block_typed ss = finished (stmts_typed (Some (record { scope = []; done = [] })) ss)
+block_typed ss = finished (stmts_typed (Some (scoped [] [])) ss)

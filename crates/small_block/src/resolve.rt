@@ -1,8 +1,8 @@
 // From the tree to the typed block.
 
-ghost use Rattle.std.specs.Prelude.{◌≡◌, ◌++◌, ◌∷◌, [], bytes_eq, length, List, IfOk, IfSome};
+ghost use Rattle.std.specs.Prelude.{◌≡◌, if◌then◌else◌, bytes_eq, Some, None, IfOk, IfSome};
 ghost use Rattle.stack_compiler.specs.Code.{HasSlots};
-ghost use Rattle.small_block.specs.Typing.{slot_of, is_in_scope, sum_op_of, product_op_of, joined, unary_typed, product_typed, sum_typed, block_typed};
+ghost use Rattle.small_block.specs.Typing.{slot_of, is_in_scope, sum_op_of, product_op_of, joined, unary_typed, product_typed, sum_typed, scoped, stmt_typed, block_typed};
 
 use apex_list::{Boxed, Items};
 use apex_syntax::typed::{Block, Expr, Stmt as Typed};
@@ -112,4 +112,58 @@ fn resolve_sum(alloc: Global, scope: &[Name], sum: &Sum) -> Result<Option<Expr>,
         links.push(Link { op, right })?;
     }
     Ok(Some(join(alloc, first, links)?))
+}
+
+// One statement more: false where it isn't well typed.
+fn resolve_stmt(
+    alloc: Global,
+    scope: &mut Vec<Name>,
+    done: &mut Items<Typed>,
+    stmt: &Stmt,
+) -> Result<bool, AllocError>
+    ensures { IfOk result (λ good. stmt_typed (scoped scope.old.items done.old) stmt.now ≡ (if good then Some (scoped scope.new.items done.new) else None)) }
+{
+    match stmt {
+        Stmt::Empty => Ok(true),
+        Stmt::Debug(value) => {
+            if is_local(scope, b"system") {
+                return Ok(false);
+            }
+            let Some(e) = resolve_sum(alloc, scope, value)? else {
+                return Ok(false);
+            };
+            done.push(Typed::Debug(e))?;
+            Ok(true)
+        }
+        Stmt::Declare(name, value) => {
+            if is_local(scope, name.bytes()) {
+                return Ok(false);
+            }
+            let Some(e) = resolve_sum(alloc, scope, value)? else {
+                return Ok(false);
+            };
+            done.push(Typed::Store(scope.as_slice().len(), e))?;
+            scope.push(name.copy()?)?;
+            Ok(true)
+        }
+    }
+}
+
+/// The typed block of a tree, or `None` exactly where the tree isn't well typed.
+pub fn resolve(alloc: Global, stmts: &[Stmt]) -> Result<Option<Block>, AllocError>
+    ensures typed { IfOk result (λ answer. answer ≡ block_typed stmts.now) }
+    ensures slots { IfOk result (λ answer. IfSome answer HasSlots) }
+{
+    let mut scope = Vec::new(alloc);
+    let mut done = Items::new(alloc);
+    for stmt in stmts {
+        let good = resolve_stmt(alloc, &mut scope, &mut done, stmt)?;
+        if !good {
+            return Ok(None);
+        }
+    }
+    Ok(Some(Block {
+        locals: scope.len(),
+        stmts: done,
+    }))
 }
