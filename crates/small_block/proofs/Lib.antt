@@ -8,3 +8,4 @@ pub mod Signs
 pub mod Slots
 pub mod Stmts
 pub mod Pieces
+pub mod Whole
