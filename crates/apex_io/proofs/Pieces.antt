@@ -1,8 +1,8 @@
 -- Pieces that follow one another.
-use Rattle.std.proofs.Common.{◌≡◌, ℕ, ◌+◌, ◌<◌, ◌≤◌, ◌⊎◌, inl, inr, ⊎_elim, List, [], ◌∷◌, ◌++◌, length, take, drop, ◌-◌, Option, Some, None, refl, sym, ap, ◌∙◌, subst, arith, append_assoc, append-nil}
+use Rattle.std.proofs.Common.{◌≡◌, ℕ, ◌+◌, ◌<◌, ◌≤◌, inl, inr, ⊎_elim, List, [], ◌++◌, length, take, drop, ◌-◌, Option, Some, None, refl, sym, ap, ◌∙◌, subst, arith, append_assoc, append-nil}
 use Rattle.std.proofs.lemmas.List.{take-append-drop, drop-drop, length-append}
 use Rattle.std.proofs.Math.Seq.{take-append_seam}
-use Rattle.apex_io.specs.Outside.{Rose, Takes, IsAtEnd, Adds, Outgrows}
+use Rattle.apex_io.specs.Outside.{Rose, Takes, Adds}
 use Rattle.apex_io.specs.Whole.{ReadCause}
 use Rattle.apex_io.specs.declared.whole.ReadFault.{ReadFault}
 use Rattle.apex_io.specs.declared.whole.ReadFault.TheVariants.{Failed, TooLong, NoMemory}

@@ -1,5 +1,5 @@
 -- What a source, a sink and their faults mean (docs/platform.md, "The outside").
-use Rattle.std.specs.Prelude.{◌≡◌, ℕ, ◌+◌, ◌-◌, ◌^◌, ◌<◌, ◌≤◌, ◌⊎◌, List, [], ◌++◌, length, take, Option, Some, None}
+use Rattle.std.specs.Prelude.{◌≡◌, ℕ, ◌+◌, ◌^◌, ◌<◌, ◌≤◌, ◌⊎◌, List, [], ◌++◌, length, take, Option, Some, None}
 use Rattle.apex_io.specs.declared.outside.Pulled.{Pulled}
 use Rattle.apex_io.specs.declared.outside.Pulled.TheVariants.{Bytes, End, Failed}
 use Rattle.apex_io.specs.declared.outside.Pushed.{Pushed}

@@ -1,5 +1,5 @@
 -- What reading to the end and writing a whole text say.
-use Rattle.std.specs.Prelude.{◌≡◌, ℕ, ◌+◌, ◌<◌, ◌≤◌, List, ◌++◌, length, take, Option, Bool, true, false}
+use Rattle.std.specs.Prelude.{◌≡◌, ℕ, ◌<◌, ◌≤◌, List, ◌++◌, length, take, Option, Bool, true, false}
 use Rattle.apex_io.specs.declared.whole.ReadFault.{ReadFault}
 use Rattle.apex_io.specs.declared.whole.ReadFault.TheVariants.{Failed, TooLong, NoMemory}
 use Rattle.apex_io.specs.Outside.{Rose, Takes, IsAtEnd, Adds, Outgrows}

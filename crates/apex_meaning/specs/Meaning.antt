@@ -1,6 +1,5 @@
 -- What a block does, by cases over its tree (docs/language.md).
-use Rattle.std.specs.Prelude.{◌≡◌, ℕ, ◌+◌, List, [], ◌∷◌, ◌++◌, length, slice_index_or, slice_set, replicate}
-use Rattle.apex_num.specs.declared.kind.LimitKind.{LimitKind}
+use Rattle.std.specs.Prelude.{ℕ, ◌+◌, List, [], ◌∷◌, ◌++◌, length, slice_index_or, slice_set, replicate}
 use Rattle.apex_num.specs.declared.kind.LimitKind.TheVariants.{Queries, Rows, Dml, Saved, Steps, Alloc}
 use Rattle.limit_meter.specs.Charges.{counter}
 use Rattle.apex_syntax.specs.declared.tree.Link.{Link}
@@ -17,7 +16,7 @@ use Rattle.apex_meaning.specs.declared.reply.Outcome.{Outcome}
 use Rattle.apex_meaning.specs.declared.reply.Outcome.TheVariants.{Ok, Thrown, Limit}
 use Rattle.apex_meaning.specs.declared.reply.Counts.{Counts}
 use Rattle.apex_meaning.specs.Values.{Calc, Val, Fails, binary, negative, text_of, class_of, message_of}
-use Rattle.apex_meaning.specs.Results.{World, State, Finish, Halts, Stop, Leaves, Closes, Res, Gives, Stops, bind, charge}
+use Rattle.apex_meaning.specs.Results.{World, State, Halts, Leaves, Closes, Res, Gives, Stops, bind, charge}
 
 abbrev pub calc : Calc → State → Res Value
 calc (Val v) st = Gives v st

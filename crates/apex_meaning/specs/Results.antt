@@ -1,5 +1,5 @@
 -- The state of a request, and how a part of it comes out.
-use Rattle.std.specs.Prelude.{ℕ, ◌+◌, Bool, true, false, cond, List, ◌∷◌}
+use Rattle.std.specs.Prelude.{ℕ, ◌+◌, Bool, true, false, List, ◌∷◌}
 use Rattle.apex_num.specs.declared.kind.LimitKind.{LimitKind}
 use Rattle.limit_meter.specs.Charges.{Entry, Charged, limit_of, fits}
 use Rattle.apex_meaning.specs.declared.value.Value.{Value}

@@ -1,5 +1,5 @@
 -- Values, operators and texts (docs/language.md, "Whole numbers" and "Exceptions").
-use Rattle.std.specs.Prelude.{◌≡◌, ℕ, ℤ, zero, suc, pos, negsuc, List, codes}
+use Rattle.std.specs.Prelude.{ℕ, ℤ, zero, suc, pos, negsuc, List, codes}
 use Rattle.std.specs.Int.{w32, int_wrapping_add, int_wrapping_sub, int_wrapping_mul, int_wrapping_div, int_wrapping_neg}
 use Rattle.std.specs.Fmt.{signed_decimal}
 use Rattle.apex_syntax.specs.declared.tree.Op.{Op}

@@ -1,5 +1,5 @@
 -- Induction for the trees of expressions.
-use Rattle.std.proofs.Common.{◌≡◌, ℕ, ℤ, List, [], ◌∷◌, map, refl, sym, ap, ◌∙◌, subst}
+use Rattle.std.proofs.Common.{◌≡◌, ℕ, ℤ, List, [], ◌∷◌, map, sym, ap, ◌∙◌, subst}
 use Rattle.apex_syntax.specs.declared.tree.SumOp.{SumOp}
 use Rattle.apex_syntax.specs.declared.tree.ProductOp.{ProductOp}
 use Rattle.apex_syntax.specs.declared.tree.Tail.{Tail}

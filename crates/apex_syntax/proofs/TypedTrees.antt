@@ -1,5 +1,5 @@
 -- Equations and induction for typed expressions.
-use Rattle.std.proofs.Common.{◌≡◌, ℕ, ℤ, List, [], ◌∷◌, map, refl, sym, ap, ◌∙◌, subst}
+use Rattle.std.proofs.Common.{◌≡◌, ℕ, ℤ, List, [], ◌∷◌, map, sym, ap, ◌∙◌, subst}
 use Rattle.apex_syntax.specs.declared.tree.Link.{Link}
 use Rattle.apex_syntax.specs.declared.typed.Expr.{Expr, map-Expr}
 use Rattle.apex_syntax.specs.declared.typed.Expr.TheVariants.{Whole, Local, Minus, Chain, rolls-Whole, rolls-Local, rolls-Minus, rolls-Chain}

@@ -1,5 +1,5 @@
 -- What is said of the right operands of a chain.
-use Rattle.std.specs.Prelude.{List, [], ◌∷◌, map}
+use Rattle.std.specs.Prelude.{List, [], ◌∷◌}
 use Rattle.apex_syntax.specs.declared.tree.Link.{Link}
 
 -- the same operator with another right operand

@@ -1,5 +1,5 @@
 -- One charge or leave more.
-use Rattle.std.proofs.Common.{◌≡◌, ◌≢◌, ◌⊎◌, ℕ, ◌+◌, ◌-◌, ◌<◌, ◌≤◌, Bool, true, false, cond, List, [], ◌∷◌, length, get_or, refl, sym, ap, ◌∙◌, subst, zero-add, arith, ⊎_elim, get_or-set_same, get_or-set_other}
+use Rattle.std.proofs.Common.{◌≡◌, ℕ, ◌+◌, ◌-◌, ◌<◌, ◌≤◌, Bool, true, false, cond, List, [], ◌∷◌, length, get_or, refl, sym, ap, ◌∙◌, subst, zero-add, arith, ⊎_elim, get_or-set_same, get_or-set_other}
 use Rattle.std.proofs.lemmas.Bool.Decides.{eqb_tells}
 use Rattle.apex_num.specs.declared.kind.LimitKind.{LimitKind}
 use Rattle.apex_num.specs.declared.kind.LimitKind.TheVariants.{Queries, Rows, Dml, Saved, Depth, Steps, Alloc, Calls}
@@ -24,18 +24,23 @@ record Told (m : List ℕ) (j k : LimitKind) (n : ℕ) (b : Bool) : Type 0 where
 told : (m : List ℕ) (j k : LimitKind) (n : ℕ) → length m ≡ 8 → (b : Bool) × Told m j k n b
 told m j k n len =
     ⊎_elim
-      (λ e. let lt : place_of k < length m = let b = below_eight k in omega arith in
-        (true, record {
-          is = e.0;
-          old = λ _. ap (λ i. get_or m i 0) e.1;
-          new = ap (λ i. count_of (with_count m k n) j) e.1 ∙ ap (λ i. get_or (with_count m k n) i 0) e.1 ∙ get_or-set_same m (place_of k) n 0 lt;
-        }))
-      (λ e. (false, record {
-          is = e.0;
-          old = λ q. cc;
-          new = get_or-set_other m (place_of k) (place_of j) n 0 e.1;
-        }))
-      (eqb_tells (place_of j) (place_of k))
+    (λ e. let lt : place_of k < length m = let b = below_eight k in omega arith in (
+      true,
+      record {
+        is = e.0;
+        old = λ _. ap (λ i. get_or m i 0) e.1;
+        new = ap (λ i. count_of (with_count m k n) j) e.1 ∙ ap (λ i. get_or (with_count m k n) i 0) e.1 ∙ get_or-set_same m (place_of k) n 0 lt;
+      },
+    ))
+    (λ e. (
+      false,
+      record {
+        is = e.0;
+        old = λ q. cc;
+        new = get_or-set_other m (place_of k) (place_of j) n 0 e.1;
+      },
+    ))
+    (eqb_tells (place_of j) (place_of k))
 
 pub counts_charge : (es : List Entry) (m : List ℕ) (k : LimitKind) (n : ℕ) → length m ≡ 8 → Counts es m → Counts (Charged k n ∷ es) (with_count m k (count_of m k + n))
 counts_charge es m k n len h = record { each = each; sound = λ j. let s = h.sound j in omega arith }

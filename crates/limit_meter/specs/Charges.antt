@@ -1,5 +1,5 @@
 -- Charges and leaves, and what they come to (docs/platform.md, "Limits").
-use Rattle.std.specs.Prelude.{◌≡◌, ℕ, ◌+◌, ◌-◌, ◌≤◌, ◌<◌, Bool, cond, eqb, leb, nat_le, List, [], ◌∷◌, Option, Some, None, slice_index, slice_set}
+use Rattle.std.specs.Prelude.{◌≡◌, ℕ, ◌+◌, ◌-◌, ◌≤◌, Bool, cond, eqb, leb, List, [], ◌∷◌, slice_index, slice_set}
 use Rattle.apex_num.specs.declared.kind.LimitKind.{LimitKind}
 use Rattle.apex_num.specs.declared.kind.LimitKind.TheVariants.{Queries, Rows, Dml, Saved, Depth, Steps, Alloc, Calls}
 

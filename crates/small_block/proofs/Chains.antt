@@ -1,6 +1,5 @@
 -- How a chain is read, one operator after the other.
-use Rattle.std.proofs.Common.{◌≡◌, ℕ, ◌+◌, ◌<◌, ◌≤◌, max, List, [], ◌∷◌, ◌++◌, length, map, Option, Some, None, refl, sym, ap, ◌∙◌, subst, arith, append_assoc, append-nil, length-append}
-use Rattle.std.proofs.lemmas.List.{map-append}
+use Rattle.std.proofs.Common.{◌≡◌, ℕ, ◌≤◌, List, [], ◌∷◌, ◌++◌, map, Option, Some, None, refl, sym, ap, ◌∙◌, subst, arith, append_assoc, append-nil}
 use Rattle.apex_syntax.specs.declared.tree.Tail.{Tail}
 use Rattle.apex_syntax.specs.declared.tree.Chain.{Chain}
 use Rattle.apex_syntax.specs.Chains.{tail_onto, chain_onto}

@@ -1,5 +1,5 @@
 -- How an expression is read.
-use Rattle.std.proofs.Common.{◌≡◌, ◌≢◌, ℕ, ℤ, suc, ◌+◌, ◌-◌, ◌<◌, ◌≤◌, max, List, [], ◌∷◌, ◌++◌, length, map, Option, Some, None, refl, sym, ap, ◌∙◌, subst, arith, append_assoc, length-append}
+use Rattle.std.proofs.Common.{◌≡◌, ℕ, ℤ, suc, ◌+◌, ◌<◌, ◌≤◌, List, [], ◌∷◌, ◌++◌, length, map, Some, None, refl, sym, ap, ◌∙◌, arith, append_assoc, length-append}
 use Rattle.apex_syntax.specs.declared.tree.SumOp.{SumOp}
 use Rattle.apex_syntax.specs.declared.tree.SumOp.TheVariants.{Plus, Minus as MinusOp}
 use Rattle.apex_syntax.specs.declared.tree.ProductOp.{ProductOp}
@@ -11,8 +11,8 @@ use Rattle.apex_syntax.specs.declared.tree.Unary.TheVariants.{Whole, Name, Paren
 use Rattle.apex_syntax.specs.Chains.{tail_onto, chain_onto}
 use Rattle.apex_syntax.proofs.Trees.{fold-Whole, fold-Name, fold-Paren, fold-Minus, by_cases}
 use Rattle.small_block.specs.declared.token.Token.{Token}
-use Rattle.small_block.specs.declared.token.Token.TheVariants.{Word, Whole as WholeT, Open, Close, Semi, Dot, Equals, Plus as PlusT, Minus as MinusT, Star, Slash}
-use Rattle.small_block.specs.Grammar.{sum_sign, product_sign, tails_spelled, chain_spelled, sum_spelled, spell_step, unary_tokens, product_tokens, sum_tokens, tails_depth, chain_depth, depth_step, unary_depth, product_depth, sum_depth}
+use Rattle.small_block.specs.declared.token.Token.TheVariants.{Word, Whole as WholeT, Open, Close, Minus as MinusT}
+use Rattle.small_block.specs.Grammar.{sum_sign, product_sign, chain_spelled, spell_step, unary_tokens, product_tokens, sum_tokens, chain_depth, depth_step, unary_depth, product_depth, sum_depth}
 use Rattle.small_block.specs.Reading.{At, NotAt, product_op, sum_op, next_op, Anything, EndsProduct, EndsSum}
 use Rattle.small_block.proofs.Chains.{Signs, Begun, begun, not_begun, ended, more_begun, stuck}
 

@@ -1,10 +1,10 @@
 -- A text has its pieces in one way.
-use Rattle.std.proofs.Common.{◌≡◌, ℕ, ◌+◌, ◌<◌, Bool, true, false, List, [], ◌∷◌, ◌++◌, length, Option, Some, None, refl, sym, ap, ◌∙◌, subst, arith, append_assoc, append-nil}
+use Rattle.std.proofs.Common.{◌≡◌, ℕ, ◌<◌, true, false, List, [], ◌∷◌, ◌++◌, length, Option, Some, None, refl, sym, ap, ◌∙◌, subst, arith, append_assoc, append-nil}
 use Rattle.small_block.specs.declared.token.Token.{Token}
-use Rattle.small_block.specs.Tokens.{Gap, gap_bytes, IsGap, Spells, Piece, Apart, Says, Front, IsTail, said, Reads, HasTokens}
+use Rattle.small_block.specs.Tokens.{Piece, Apart, Says, Front, IsTail, said, Reads, HasTokens}
 use Rattle.small_block.specs.Lexing.{gap_at, token_at, tail_test}
-use Rattle.small_block.proofs.Gaps.{GapAt, gap_found, gap_again, gap_shorter, tail_no_gap, tail_is, is_tail}
-use Rattle.small_block.proofs.Signs.{TokenAt, token_found, token_again, token_no_gap, token_shorter, tail_no_token}
+use Rattle.small_block.proofs.Gaps.{gap_found, gap_again, gap_shorter, tail_no_gap, tail_is, is_tail}
+use Rattle.small_block.proofs.Signs.{token_found, token_again, token_no_gap, token_shorter, tail_no_token}
 
 front_more : (ps qs : List Piece) (text mid rest : List ℕ) → Front ps text mid → Front qs mid rest → Front (ps ++ qs) text rest
 front_more [] qs text mid rest f g = subst (λ t. Front qs t rest) (sym f) g

@@ -1,5 +1,5 @@
 -- How a chain is typed, one operand after the other.
-use Rattle.std.proofs.Common.{◌≡◌, ℕ, ℤ, zero, suc, ◌+◌, ◌*◌, ◌<◌, ◌≤◌, max, List, [], ◌∷◌, ◌++◌, length, drop, map, get_or, Option, Some, None, refl, sym, ap, ◌∙◌, subst, arith, append_assoc, append-nil, add-one, drop-cons}
+use Rattle.std.proofs.Common.{◌≡◌, ℕ, zero, suc, ◌+◌, ◌<◌, ◌≤◌, List, [], ◌∷◌, ◌++◌, length, drop, map, get_or, Option, Some, None, refl, sym, ap, ◌∙◌, arith, append_assoc, append-nil, add-one, drop-cons}
 use Rattle.std.proofs.Math.ListN.{drop_of_length-le}
 use Rattle.apex_syntax.specs.declared.tree.Op.{Op}
 use Rattle.apex_syntax.specs.declared.tree.SumOp.{SumOp}
@@ -8,15 +8,14 @@ use Rattle.apex_syntax.specs.declared.tree.Tail.{Tail}
 use Rattle.apex_syntax.specs.declared.tree.Chain.{Chain}
 use Rattle.apex_syntax.specs.declared.tree.Link.{Link}
 use Rattle.apex_syntax.specs.declared.tree.Unary.{Unary}
-use Rattle.apex_syntax.specs.declared.tree.Unary.TheVariants.{Whole, Name, Paren, Minus}
+use Rattle.apex_syntax.specs.declared.tree.Unary.TheVariants.{Paren}
 use Rattle.apex_syntax.specs.declared.typed.Expr.{Expr}
-use Rattle.apex_syntax.specs.declared.typed.Expr.TheVariants.{Whole as WholeE, Local, Minus as MinusE}
 use Rattle.apex_syntax.specs.Chains.{tail_onto, chain_onto}
-use Rattle.apex_syntax.proofs.Trees.{fold-Whole, fold-Name, fold-Paren, fold-Minus}
-use Rattle.std.specs.Prelude.{option_map, Result, Ok, Err, IfOk}
-use Rattle.small_block.specs.Grammar.{tails_depth, chain_depth, depth_step, unary_depth, product_depth, sum_depth}
-use Rattle.small_block.specs.Typing.{slot_of, sum_op_of, product_op_of, joined, more_links, links_typed, join_all, chain_typed, typed_step, unary_typed, product_typed, sum_typed}
-use Rattle.small_block.proofs.Exprs.{fuse, depth-Paren, depth-Minus}
+use Rattle.apex_syntax.proofs.Trees.{fold-Paren}
+use Rattle.std.specs.Prelude.{Result, Ok, Err, IfOk}
+use Rattle.small_block.specs.Grammar.{tails_depth, chain_depth}
+use Rattle.small_block.specs.Typing.{sum_op_of, product_op_of, joined, more_links, links_typed, join_all, chain_typed, typed_step, unary_typed, sum_typed}
+use Rattle.small_block.proofs.Exprs.{fuse}
 
 abbrev pub prepend : List (Link Expr) → Option (List (Link Expr)) → Option (List (Link Expr))
 prepend ls None = None

@@ -1,5 +1,5 @@
 -- Tokens are found where they are spelled, and nowhere else.
-use Rattle.std.proofs.Common.{◌≡◌, ◌⊎◌, inl, inr, ⊎_elim, ℕ, suc, ◌+◌, ◌^◌, ◌<◌, ◌≤◌, ◌&&◌, ◌||◌, not, pos, nat_lt, Bool, true, false, cond, eqb, List, [], ◌∷◌, ◌++◌, length, take, drop, codes, Option, Some, None, refl, sym, ap, ◌∙◌, subst, arith, append_assoc, length-append}
+use Rattle.std.proofs.Common.{◌≡◌, ⊎_elim, ℕ, suc, ◌^◌, ◌<◌, ◌&&◌, ◌||◌, not, pos, nat_lt, Bool, true, false, cond, eqb, List, [], ◌∷◌, ◌++◌, length, take, drop, codes, Option, Some, None, refl, sym, ap, ◌∙◌, subst, arith, length-append}
 use Rattle.std.specs.Char.{is_ascii_digit, is_ascii_alphabetic}
 use Rattle.std.proofs.lemmas.Bool.{eqb-true}
 use Rattle.std.proofs.lemmas.Bool.Decides.{leb_tells}
@@ -8,7 +8,7 @@ use Rattle.small_block.specs.declared.token.Token.{Token}
 use Rattle.small_block.specs.declared.token.Token.TheVariants.{Word, Whole, Open, Close, Semi, Dot, Equals, Plus, Minus, Star, Slash}
 use Rattle.small_block.specs.Tokens.{is_blank, is_word_byte, AllMeet, BeginsNot, begins, is_one_of, is_reserved, digits_value, EndsNumber, Spells, IsTail}
 use Rattle.small_block.specs.Lexing.{front, ends_number, word_of, number_of, unless, sign_at, token_at, gap_at, comment_at}
-use Rattle.small_block.proofs.Bools.{both, neither, chosen, not_true}
+use Rattle.small_block.proofs.Bools.{neither, chosen, not_true}
 
 -- a run of bytes, and what follows it
 pub record RunAt (test : ℕ → Bool) (text : List ℕ) : Type 0 where

@@ -1,11 +1,10 @@
 -- A typed block names no slot but those of its locals.
-use Rattle.std.proofs.Common.{◌≡◌, ℕ, ℤ, zero, suc, ◌+◌, ◌<◌, ◌≤◌, max, Bool, true, false, cond, bytes_eq, List, [], ◌∷◌, ◌++◌, length, drop, map, get_or, Option, Some, None, codes, refl, sym, ap, ◌∙◌, subst, arith, append-nil, length-append, add-one, drop-cons}
+use Rattle.std.proofs.Common.{◌≡◌, ℕ, suc, ◌+◌, ◌<◌, ◌≤◌, Bool, true, false, cond, bytes_eq, List, [], ◌∷◌, ◌++◌, length, drop, map, get_or, Option, Some, None, codes, refl, sym, ap, ◌∙◌, subst, arith, append-nil, length-append, add-one, drop-cons}
 use Rattle.std.specs.Prelude.{option_map, position, nat_lt}
 use Rattle.std.specs.List.{position_or_len}
 use Rattle.std.proofs.lemmas.Bool.Decides.{leb_tells}
 use Rattle.std.proofs.Common.{⊎_elim}
 use Rattle.small_block.proofs.Bools.{chosen}
-use Rattle.std.proofs.Math.ListN.{drop_of_length-le}
 use Rattle.apex_syntax.specs.declared.tree.Op.{Op}
 use Rattle.apex_syntax.specs.declared.tree.SumOp.{SumOp}
 use Rattle.apex_syntax.specs.declared.tree.ProductOp.{ProductOp}
@@ -13,11 +12,10 @@ use Rattle.apex_syntax.specs.declared.tree.Tail.{Tail}
 use Rattle.apex_syntax.specs.declared.tree.Chain.{Chain}
 use Rattle.apex_syntax.specs.declared.tree.Link.{Link}
 use Rattle.apex_syntax.specs.declared.tree.Unary.{Unary}
-use Rattle.apex_syntax.specs.declared.tree.Unary.TheVariants.{Whole, Name, Paren, Minus}
 use Rattle.apex_syntax.specs.declared.tree.Stmt.{Stmt}
 use Rattle.apex_syntax.specs.declared.tree.Stmt.TheVariants.{Empty, Debug, Declare}
 use Rattle.apex_syntax.specs.declared.typed.Expr.{Expr}
-use Rattle.apex_syntax.specs.declared.typed.Expr.TheVariants.{Whole as WholeE, Local, Minus as MinusE, Chain as ChainE}
+use Rattle.apex_syntax.specs.declared.typed.Expr.TheVariants.{Local, Minus as MinusE}
 use Rattle.apex_syntax.specs.declared.typed.Stmt.{Stmt as Typed}
 use Rattle.apex_syntax.specs.declared.typed.Stmt.TheVariants.{Debug as DebugT, Store}
 use Rattle.apex_syntax.specs.Chains.{tail_onto, chain_onto, EachTail, EachOperand}
@@ -32,10 +30,10 @@ use Rattle.small_block.proofs.Resolves.{typed-Paren}
 position_below : {X : Type 0} (p : X → Bool) (xs : List X) (i : ℕ) → position p xs ≡ Some i → i < length xs
 position_below p xs i e =
     ⊎_elim
-        (λ q. let same : position_or_len p xs ≡ i = let z = q.1 in cc in
-          ⊎_elim (λ t. omega (arith, t.1)) (λ t. let f : false ≡ true = sym t.0 ∙ q.0 in cc) (leb_tells (suc (position_or_len p xs)) (length xs)))
-        (λ q. let z : None ≡ Some i = q.1 in cc)
-        (chosen (nat_lt (position_or_len p xs) (length xs)) (Some (position_or_len p xs)) None (Some i) e)
+    (λ q. let same : position_or_len p xs ≡ i = let z = q.1 in cc in
+    ⊎_elim (λ t. omega (arith, t.1)) (λ t. let f : false ≡ true = sym t.0 ∙ q.0 in cc) (leb_tells (suc (position_or_len p xs)) (length xs)))
+    (λ q. let z : None ≡ Some i = q.1 in cc)
+    (chosen (nat_lt (position_or_len p xs) (length xs)) (Some (position_or_len p xs)) None (Some i) e)
 
 module _ (n : ℕ) where
   abbrev Low : Option Expr → Type 0

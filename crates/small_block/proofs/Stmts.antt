@@ -1,5 +1,5 @@
 -- How a statement and a block are read.
-use Rattle.std.proofs.Common.{◌≡◌, ℕ, ◌+◌, ◌<◌, ◌≤◌, Bool, true, false, eqb, List, [], ◌∷◌, ◌++◌, length, codes, Option, Some, None, refl, sym, ap, ◌∙◌, subst, arith, append_assoc, append-nil, length-append}
+use Rattle.std.proofs.Common.{◌≡◌, ℕ, ◌<◌, ◌≤◌, Bool, true, false, eqb, List, [], ◌∷◌, ◌++◌, length, codes, refl, sym, ap, ◌∙◌, subst, arith, append_assoc, append-nil, length-append}
 use Rattle.std.proofs.lemmas.Bool.{eqb-true}
 use Rattle.apex_syntax.specs.declared.tree.SumOp.{SumOp}
 use Rattle.apex_syntax.specs.declared.tree.ProductOp.{ProductOp}
@@ -8,9 +8,9 @@ use Rattle.apex_syntax.specs.declared.tree.Unary.{Unary}
 use Rattle.apex_syntax.specs.declared.tree.Stmt.{Stmt}
 use Rattle.apex_syntax.specs.declared.tree.Stmt.TheVariants.{Empty, Debug, Declare}
 use Rattle.small_block.specs.declared.token.Token.{Token}
-use Rattle.small_block.specs.declared.token.Token.TheVariants.{Word, Open, Close, Semi, Dot, Equals}
+use Rattle.small_block.specs.declared.token.Token.TheVariants.{Word, Close, Semi, Dot}
 use Rattle.small_block.specs.Grammar.{sum_tokens, sum_depth, debug_head, declare_head, stmt_tokens, FitsNesting, block_tokens, EachFits, IsTree}
-use Rattle.small_block.specs.Reading.{At, NotAt, Anything, EndsSum}
+use Rattle.small_block.specs.Reading.{At, NotAt, Anything}
 use Rattle.small_block.proofs.Exprs.{SumAt, NoSum}
 
 abbrev Sum' : Type 0

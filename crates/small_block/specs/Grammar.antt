@@ -1,5 +1,5 @@
 -- The tokens of a tree, in their order (docs/formats.md, "Grammar").
-use Rattle.std.specs.Prelude.{◌≡◌, ℕ, suc, ◌+◌, ◌≤◌, max, List, [], ◌∷◌, ◌++◌, codes}
+use Rattle.std.specs.Prelude.{◌≡◌, ℕ, suc, ◌≤◌, max, List, [], ◌∷◌, ◌++◌, codes}
 use Rattle.apex_syntax.specs.declared.tree.SumOp.{SumOp}
 use Rattle.apex_syntax.specs.declared.tree.SumOp.TheVariants.{Plus, Minus as MinusOp}
 use Rattle.apex_syntax.specs.declared.tree.ProductOp.{ProductOp}

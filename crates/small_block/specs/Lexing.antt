@@ -1,5 +1,5 @@
 -- The first piece of a text, as a function.
-use Rattle.std.specs.Prelude.{◌≡◌, ℕ, suc, ◌+◌, ◌^◌, ◌||◌, ◌&&◌, not, pos, Bool, true, false, cond, eqb, nat_lt, List, [], ◌∷◌, ◌++◌, take, drop, codes, Option, Some, None}
+use Rattle.std.specs.Prelude.{◌≡◌, ℕ, suc, ◌^◌, ◌||◌, ◌&&◌, not, pos, Bool, true, false, cond, eqb, nat_lt, List, [], ◌∷◌, take, drop, codes, Option, Some, None}
 use Rattle.std.specs.Borrow.{Bor}
 use Rattle.std.specs.Char.{is_ascii_digit, is_ascii_alphabetic}
 use Rattle.apex_text.specs.Fold.{folded}

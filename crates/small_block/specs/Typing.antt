@@ -1,6 +1,5 @@
 -- Which blocks are well typed, and what they are then (docs/language.md, "Names").
-use Rattle.std.specs.Prelude.{◌≡◌, ℕ, suc, ◌+◌, ◌≤◌, Bool, cond, bytes_eq, List, [], ◌∷◌, ◌++◌, length, codes, Option, Some, None, option_map, position}
-use Rattle.std.specs.Option.{option_and_then}
+use Rattle.std.specs.Prelude.{ℕ, Bool, cond, bytes_eq, List, [], ◌∷◌, ◌++◌, length, codes, Option, Some, None, option_map, position}
 use Rattle.std.specs.Option.{is_some}
 use Rattle.apex_syntax.specs.declared.tree.Op.{Op}
 use Rattle.apex_syntax.specs.declared.tree.Op.TheVariants.{Plus, Minus, Times, Over}

@@ -15,7 +15,6 @@ mod token;
 
 use apex_syntax::typed::Block;
 use std::alloc::{AllocError, Global};
-
 pub use token::Token;
 
 /// The typed block that a text is, or `None` exactly where the text is no small block: it isn't

@@ -1,13 +1,11 @@
 -- The image of a block is checked and means it.
-use Rattle.std.proofs.Common.{◌≡◌, ℕ, zero, suc, List, [], ◌∷◌, ◌++◌, length, drop, replicate, Option, Some, None, refl, sym, ap, ◌∙◌, subst}
-use Rattle.limit_meter.specs.Charges.{Counts}
+use Rattle.std.proofs.Common.{◌≡◌, ℕ, zero, suc, [], ◌∷◌, Option, Some, refl, sym, ap, ◌∙◌, subst}
 use Rattle.limit_meter.proofs.Counted.{counts_none}
 use Rattle.apex_syntax.specs.declared.typed.Block.{Block}
-use Rattle.apex_meaning.specs.declared.value.Value.TheVariants.{Null}
 use Rattle.apex_meaning.specs.declared.value.Abrupt.TheVariants.{Throws}
 use Rattle.apex_meaning.specs.declared.reply.Outcome.TheVariants.{Ok, Thrown}
 use Rattle.apex_meaning.specs.Values.{class_of, message_of}
-use Rattle.apex_meaning.specs.Results.{State, Stop, Leaves, Closes, Halts, Res, Gives, Stops, Holds}
+use Rattle.apex_meaning.specs.Results.{State, Leaves, Closes, Halts, Res, Gives, Stops, Holds}
 use Rattle.apex_meaning.specs.Meaning.{does_all, End, end_of, first_state, run}
 use Rattle.stack_code.specs.declared.code.Image.{Image}
 use Rattle.stack_code.specs.declared.code.Config.{Config}
@@ -17,7 +15,7 @@ use Rattle.stack_code.proofs.Fetch.{fetch_none}
 use Rattle.stack_compiler.specs.Code.{stmts_code, HasSlots}
 use Rattle.stack_compiler.specs.Means.{Means}
 use Rattle.stack_compiler.proofs.Feeds.{stmts_fed}
-use Rattle.stack_compiler.proofs.Simulates.{Metered, config, same_end, Runs, At, Raised, Stopped, stmts_at}
+use Rattle.stack_compiler.proofs.Simulates.{Metered, config, same_end, Runs, At, Stopped, stmts_at}
 
 -- a machine has one end, and comes to it in one number of steps
 over_unique : (n m : ℕ) (o d e : End) → over_at n o ≡ Some d → over_at m o ≡ Some e → d ≡ e
@@ -39,8 +37,10 @@ ends_unique image (suc n) (suc m) c d e h k =
 module _ (image : Image) (e : End) where
   -- behind the last instruction the request is over
   finished : (st : State) → e ≡ end_of (Gives tt st) → At image e [] [] st
-  finished st is = record { by = λ pc m h d.
-      (1, ap (λ o. drive 0 (steps image 0) (act o (config pc [] st m))) (fetch_none pc image.body d) ∙ ap Some (same_end Ok st m h ∙ sym is)) }
+  finished st is = record {
+    by = λ pc m h d.
+        (1, ap (λ o. drive 0 (steps image 0) (act o (config pc [] st m))) (fetch_none pc image.body d) ∙ ap Some (same_end Ok st m h ∙ sym is));
+  }
 
   outermost : (res : Res (Unit {0})) → e ≡ end_of res → Holds (λ _ s. At image e [] [] s) (Stopped image e) res
   outermost (Gives u st) is = finished st is

@@ -44,7 +44,7 @@ links_more old mid new start ls i l lt is o m n =
     let c = links_code (map (onto expr_code) (take i ls)) in
     let more : take (i + 1) ls ≡ take i ls ++ l ∷ [] = take_more ls i l lt ∙ ap (λ x. take i ls ++ x ∷ []) (sym is) in
     let code : links_code (map (onto expr_code) (take (i + 1) ls)) ≡ c ++ (expr_code l.right ++ Calc l.op ∷ []) =
-        ap (λ t. links_code (map (onto expr_code) t)) more ∙ ap links_code (map-append (onto expr_code) (take i ls) (l ∷ [])) ∙ links_code-append (map (onto expr_code) (take i ls)) _ in
+    ap (λ t. links_code (map (onto expr_code) t)) more ∙ ap links_code (map-append (onto expr_code) (take i ls) (l ∷ [])) ∙ links_code-append (map (onto expr_code) (take i ls)) _ in
     n ∙ ap (λ x. x ++ Calc l.op ∷ []) (m ∙ ap (λ x. x ++ expr_code l.right) o)
     ∙ append_assoc (start ++ c) (expr_code l.right) (Calc l.op ∷ []) ∙ append_assoc start c (expr_code l.right ++ Calc l.op ∷ [])
     ∙ ap (λ x. start ++ x) (sym code)

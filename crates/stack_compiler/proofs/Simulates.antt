@@ -1,10 +1,10 @@
 -- The machine does what the evaluator does.
-use Rattle.std.proofs.Common.{◌≡◌, ◌≢◌, ℕ, ℤ, zero, suc, ◌+◌, ◌≤◌, Bool, true, false, List, [], ◌∷◌, ◌++◌, length, drop, map, Option, Some, None, refl, sym, ap, ◌∙◌, subst, arith, append_assoc, append-nil}
-use Rattle.std.specs.Prelude.{slice_get, slice_index_or, slice_set, leb}
+use Rattle.std.proofs.Common.{◌≡◌, ℕ, suc, ◌+◌, Bool, true, false, List, [], ◌∷◌, ◌++◌, length, drop, map, Some, sym, ap, ◌∙◌, subst, append_assoc}
+use Rattle.std.specs.Prelude.{leb}
 use Rattle.std.proofs.lemmas.List.{length-set}
 use Rattle.apex_num.specs.declared.kind.LimitKind.{LimitKind}
 use Rattle.apex_num.specs.declared.kind.LimitKind.TheVariants.{Queries, Rows, Dml, Saved, Steps, Alloc}
-use Rattle.limit_meter.specs.Charges.{Entry, Charged, limit_of, counter, fits, count_of, with_count, Counts}
+use Rattle.limit_meter.specs.Charges.{limit_of, counter, fits, count_of, with_count, Counts}
 use Rattle.limit_meter.proofs.Counted.{counts_charge}
 use Rattle.apex_syntax.specs.declared.tree.Link.{Link}
 use Rattle.apex_syntax.specs.declared.typed.Expr.{Expr}
@@ -14,20 +14,19 @@ use Rattle.apex_syntax.specs.declared.typed.Stmt.TheVariants.{Debug, Store as St
 use Rattle.apex_syntax.specs.Links.{onto, EachRight}
 use Rattle.apex_syntax.proofs.TypedTrees.{by_cases, fold-Whole, fold-Local, fold-Minus, fold-Chain}
 use Rattle.apex_meaning.specs.declared.value.Value.{Value}
-use Rattle.apex_meaning.specs.declared.value.Value.TheVariants.{Null, Whole as WholeV}
+use Rattle.apex_meaning.specs.declared.value.Value.TheVariants.{Whole as WholeV}
 use Rattle.apex_meaning.specs.declared.value.Abrupt.{Abrupt}
-use Rattle.apex_meaning.specs.declared.value.Abrupt.TheVariants.{Throws}
-use Rattle.apex_meaning.specs.declared.reply.Outcome.TheVariants.{Ok, Thrown, Limit}
-use Rattle.apex_meaning.specs.Values.{Calc, Val, Fails, binary, negative, text_of, class_of, message_of}
-use Rattle.apex_meaning.specs.Results.{World as Past, State, Finish, Halts, Stop, Leaves, Closes, Res, Gives, Stops, bind, charge_if, charge, Holds}
-use Rattle.apex_meaning.specs.Meaning.{calc, chained, value_step, value_of, say, set_local, does, does_all, End, counts_of, end_with, end_of}
+use Rattle.apex_meaning.specs.declared.reply.Outcome.TheVariants.{Limit}
+use Rattle.apex_meaning.specs.Values.{Calc, Val, Fails, binary, negative, text_of}
+use Rattle.apex_meaning.specs.Results.{State, Halts, Stop, Leaves, Closes, Res, Gives, Stops, bind, charge_if, charge, Holds}
+use Rattle.apex_meaning.specs.Meaning.{calc, chained, value_step, value_of, say, set_local, does, does_all, End, counts_of, end_with}
 use Rattle.stack_code.specs.declared.code.Instr.{Instr}
 use Rattle.stack_code.specs.declared.code.Instr.TheVariants.{Step, Push, Load, Store, Negate, Calc as CalcI, Print}
 use Rattle.stack_code.specs.declared.code.Image.{Image}
-use Rattle.stack_code.specs.declared.code.Mode.TheVariants.{Running, Raising}
+use Rattle.stack_code.specs.declared.code.Mode.TheVariants.{Running}
 use Rattle.stack_code.specs.declared.code.Config.{Config}
-use Rattle.stack_code.specs.Machine.{Next, Goes, Over, Stuck, counts_in, ending, move, raise, charged_if, charged, calc_next, act, step, over_at, drive, steps, Ends}
-use Rattle.stack_code.proofs.Fetch.{fetch, fetch_none, next}
+use Rattle.stack_code.specs.Machine.{Next, Goes, counts_in, ending, move, raise, charged_if, charged, calc_next, act, drive, steps, Ends}
+use Rattle.stack_code.proofs.Fetch.{fetch, next}
 use Rattle.stack_compiler.specs.Code.{links_code, expr_code, stmt_code, stmts_code}
 use Rattle.stack_compiler.proofs.Equations.{code-Whole, code-Local, code-Minus, code-Chain}
 
@@ -82,9 +81,11 @@ module _ (image : Image) (e : End) where
 
   -- one instruction
   first : (i : Instr) (k : List Instr) (temps : List Value) (st : State) → ((pc : ℕ) (m : List ℕ) → Metered st m → drop (pc + 1) image.body ≡ k → (n : ℕ) × (drive n (steps image n) (act (Some i) (config pc temps st m)) ≡ Some e)) → At (i ∷ k) temps st
-  first i k temps st go = record { by = λ pc m h d.
-      let t = go pc m h (next pc image.body i k d) in
-      (suc t.0, ap (λ o. drive t.0 (steps image t.0) (act o (config pc temps st m))) (fetch pc image.body i k d) ∙ t.1) }
+  first i k temps st go = record {
+    by = λ pc m h d.
+        let t = go pc m h (next pc image.body i k d) in
+        (suc t.0, ap (λ o. drive t.0 (steps image t.0) (act o (config pc temps st m))) (fetch pc image.body i k d) ∙ t.1);
+  }
 
   at_same : (k l : List Instr) (temps : List Value) (st : State) → k ≡ l → At l temps st → At k temps st
   at_same k l temps st eq h = subst (λ c. At c temps st) (sym eq) h
@@ -135,8 +136,8 @@ module _ (image : Image) (e : End) where
       let one = bound (λ w s. At k (w ∷ temps) s) Stopped (bind (value_of l.right st) (λ w s. calc (binary l.op v w) s)) rest post in
       let two = bound (λ x s. Holds (λ w s1. At k (w ∷ temps) s1) Stopped (rest x s)) Stopped (value_of l.right st) (λ w s. calc (binary l.op v w) s) one in
       at_same ((expr_code l.right ++ (CalcI l.op ∷ c)) ++ k) (expr_code l.right ++ (CalcI l.op ∷ (c ++ k))) (v ∷ temps) st (append_assoc (expr_code l.right) (CalcI l.op ∷ c) k)
-          (each.0 (CalcI l.op ∷ (c ++ k)) (v ∷ temps) st
-              (weaken _ _ Stopped (value_of l.right st) (λ w s h. apply_at l.op v w (c ++ k) temps s (weaken _ _ Stopped (calc (binary l.op v w) s) (λ x s1 g. links_at ls each.1 x k temps s1 g) h)) two))
+      (each.0 (CalcI l.op ∷ (c ++ k)) (v ∷ temps) st
+      (weaken _ _ Stopped (value_of l.right st) (λ w s h. apply_at l.op v w (c ++ k) temps s (weaken _ _ Stopped (calc (binary l.op v w) s) (λ x s1 g. links_at ls each.1 x k temps s1 g) h)) two))
 
   pub expr_at : (x : Expr) → Means x
   expr_at = by_cases Means

@@ -10,7 +10,7 @@ returns-clause-listed c = λ es h.
     let old : Counts es m = subst (λ v. Counts es v) (sym c.self.view_is) h in
     let one = counts_charge es m c.args.kind c.args.n c.self.told old in
     let first : set m (place_of c.args.kind) (count_of m c.args.kind + c.args.n) ≡ set m c.place-2.result (count_of m c.args.kind + c.args.n) =
-        ap (λ p. set m p (count_of m c.args.kind + c.args.n)) (sym c.place-2.ensures.place) in
+    ap (λ p. set m p (count_of m c.args.kind + c.args.n)) (sym c.place-2.ensures.place) in
     let second : set m c.place-2.result (count_of m c.args.kind + c.args.n) ≡ set m c.place-2.result (get_or m c.place.result 0 + c.args.n) =
-        ap (λ p. set m c.place-2.result (get_or m p 0 + c.args.n)) (sym c.place.ensures.place) in
+    ap (λ p. set m c.place-2.result (get_or m p 0 + c.args.n)) (sym c.place.ensures.place) in
     subst (λ v. Counts (Charged c.args.kind c.args.n ∷ es) v) (first ∙ second) one

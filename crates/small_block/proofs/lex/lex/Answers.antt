@@ -1,5 +1,4 @@
-use Rattle.std.proofs.Common.{◌≡◌, ◌∷◌, ◌++◌, [], None, sym, ◌∙◌}
-use Rattle.small_block.specs.Lexing.{token_at}
+use Rattle.std.proofs.Common.{sym, ◌∙◌}
 use Rattle.small_block.proofs.Pieces.{gap_more, token_more, gap_falls, token_falls, all_read, only_these, no_tokens}
 use Rattle.small_block.proofs.lex.lex.Goals as goal
 

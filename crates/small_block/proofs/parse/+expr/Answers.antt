@@ -1,7 +1,7 @@
-use Rattle.std.proofs.Common.{◌≡◌, ◌+◌, ◌-◌, ◌∷◌, ◌++◌, [], List, sym, ap, ◌∙◌, subst, arith}
+use Rattle.std.proofs.Common.{◌-◌, ◌∷◌, sym, subst, arith}
 use Rattle.apex_syntax.specs.declared.tree.Unary.TheVariants.{Paren}
 use Rattle.small_block.specs.declared.token.Token.TheVariants.{Open}
-use Rattle.small_block.proofs.Exprs.{paren_at, paren_open, paren_none, paren_deep, product_begun, product_more, product_ended, product_stuck, product_none, sum_begun, sum_more, sum_ended, sum_stuck, sum_none, UnaryAt, SumBegun}
+use Rattle.small_block.proofs.Exprs.{paren_at, paren_open, paren_none, product_more, product_ended, product_stuck, sum_begun, sum_more, sum_ended, sum_stuck, sum_none, UnaryAt, SumBegun}
 use Rattle.small_block.proofs.parse.+expr.Goals as goal
 
 pub paren-returns-in_default : goal.paren-returns-in_default

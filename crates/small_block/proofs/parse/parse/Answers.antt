@@ -1,4 +1,4 @@
-use Rattle.small_block.proofs.Stmts.{block_more, block_stuck, block_found, block_only, some_left, none_left}
+use Rattle.small_block.proofs.Stmts.{block_more, block_stuck, block_only, some_left, none_left}
 use Rattle.small_block.proofs.parse.parse.Goals as goal
 
 pub returns-in_default-clause-none : goal.returns-in_default-clause-none

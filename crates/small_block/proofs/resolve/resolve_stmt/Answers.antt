@@ -1,4 +1,4 @@
-use Rattle.std.proofs.Common.{sym, ◌∙◌, ap, codes, length, ◌++◌, ◌∷◌, []}
+use Rattle.std.proofs.Common.{◌∙◌, ap, codes, length, ◌++◌, ◌∷◌, []}
 use Rattle.small_block.specs.Typing.{is_in_scope, sum_typed}
 use Rattle.small_block.proofs.Slots.{debug_typed, declare_typed}
 use Rattle.small_block.proofs.resolve.resolve_stmt.Goals as goal

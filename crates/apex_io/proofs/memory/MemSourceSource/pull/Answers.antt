@@ -1,4 +1,4 @@
-use Rattle.std.proofs.Common.{◌≡◌, ◌+◌, ◌++◌, drop, take, sym, ap, ◌∙◌, subst}
+use Rattle.std.proofs.Common.{◌≡◌, drop, take, sym, ap, ◌∙◌}
 use Rattle.apex_io.proofs.Pieces.{cut_at}
 use Rattle.apex_io.proofs.memory.MemSourceSource.pull.Goals as goal
 
