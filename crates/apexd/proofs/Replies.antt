@@ -1,9 +1,8 @@
 -- The text of a reply is that of the source evaluator.
-use Rattle.std.proofs.Common.{◌≡◌, ℕ, List, Option, Some, refl, sym, ap, ◌∙◌, subst}
-use Rattle.std.specs.Prelude.{min, ◌^◌, ◌-◌}
+use Rattle.std.proofs.Common.{◌≡◌, ℕ, List, Some, refl, ap, ◌∙◌, subst}
 use Rattle.apex_syntax.specs.declared.typed.Block.{Block}
 use Rattle.apex_meaning.specs.declared.reply.Reply.{Reply}
-use Rattle.apex_meaning.specs.Meaning.{End, run}
+use Rattle.apex_meaning.specs.Meaning.{run}
 use Rattle.stack_code.specs.declared.code.Image.{Image}
 use Rattle.stack_code.specs.Machine.{Ends, start}
 use Rattle.stack_compiler.specs.Means.{Means}

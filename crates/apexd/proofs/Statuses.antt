@@ -1,13 +1,13 @@
 -- What a status says.
-use Rattle.std.proofs.Common.{◌≡◌, inl, inr, ℕ, ◌+◌, ◌<◌, ◌≤◌, List, [], ◌++◌, length, Option, Some, None, refl, sym, ap, ◌∙◌, subst, arith, append-nil, length-append}
+use Rattle.std.proofs.Common.{◌≡◌, inl, inr, ℕ, ◌<◌, List, [], ◌++◌, length, Option, Some, None, refl, sym, ap, ◌∙◌, subst, arith, append-nil, length-append}
 use Rattle.std.specs.Prelude.{◌⊎◌}
-use Rattle.apex_io.specs.Outside.{Rose, Takes, IsAtEnd, Outgrows}
+use Rattle.apex_io.specs.Outside.{Rose, Outgrows}
 use Rattle.apex_syntax.specs.declared.typed.Block.{Block}
 use Rattle.stack_code.specs.declared.code.Image.{Image}
 use Rattle.small_block.specs.SmallBlocks.{IsSmallBlock}
 use Rattle.apexd.specs.declared.exec.Answer.{Answer}
 use Rattle.apexd.specs.declared.exec.Answer.TheVariants.{Done, ReadFault, WriteFault, NoMemory, TooLong, Refused}
-use Rattle.apexd.specs.Answers.{most_bytes, status_of, refused_line, ReadWhole, IsRefused, Replied, Seen, Cause, IsFine, Execs}
+use Rattle.apexd.specs.Answers.{most_bytes, status_of, refused_line, ReadWhole, IsRefused, Seen, Cause, IsFine, Execs}
 
 -- what was read whole are the bytes that were told
 whole_told : (left later : Option (List ℕ)) (read bytes : List ℕ) → ReadWhole left later read → left ≡ Some bytes → read ≡ bytes
@@ -32,7 +32,7 @@ outgrown (Some l) (Some rest) bytes o e =
 
 pub refused_of : (read bytes : List ℕ) (image old : Option Image) → read ≡ bytes → ((block : Block) → IsSmallBlock read block → ⊥) → image ≡ old → old ≡ None → IsRefused bytes image refused_line
 refused_of read bytes image old e n i o =
-    record { none = λ block b. n block (subst (λ x. IsSmallBlock x block) (sym e) b); nothing_kept = i ∙ o; line = refl; }
+    record { none = λ block b. n block (subst (λ x. IsSmallBlock x block) (sym e) b); nothing_kept = i ∙ o; line = refl }
 
 module _ (s : Seen) (status : ℕ) where
   complete_of : (a : Answer) → status ≡ status_of a → Cause a s → (bytes : List ℕ) → IsFine bytes s → (block : Block) → IsSmallBlock bytes block → (status ≡ 0) ⊎ (status ≡ 5)

@@ -24,4 +24,4 @@ escaped_more old new start xs i x lt is o n = more escaped 0 x xs i old new star
 pub debug_more : (old a b new start : List ℕ) (xs : List (List ℕ)) (i : ℕ) (x y : List ℕ) → i < length xs → x ≡ get_or xs i x → y ≡ x → old ≡ start ++ debug_text (take i xs) → a ≡ old ++ codes "| " → b ≡ a ++ escaped y → new ≡ b ++ 10 ∷ [] → new ≡ start ++ debug_text (take (i + 1) xs)
 debug_more old a b new start xs i x y lt is e o p q n =
     more debug_text x x xs i old new start (codes "| " ++ escaped x ++ 10 ∷ []) debug-append refl lt is o
-      (n ∙ ap (λ t. t ++ 10 ∷ []) (q ∙ ap (λ t. a ++ escaped t) e ∙ ap (λ t. t ++ escaped x) p) ∙ ap (λ t. t ++ 10 ∷ []) (append_assoc old (codes "| ") (escaped x)) ∙ append_assoc old (codes "| " ++ escaped x) (10 ∷ []))
+    (n ∙ ap (λ t. t ++ 10 ∷ []) (q ∙ ap (λ t. a ++ escaped t) e ∙ ap (λ t. t ++ escaped x) p) ∙ ap (λ t. t ++ 10 ∷ []) (append_assoc old (codes "| ") (escaped x)) ∙ append_assoc old (codes "| " ++ escaped x) (10 ∷ []))

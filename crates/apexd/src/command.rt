@@ -16,8 +16,7 @@ pub struct Kept {
     pub image: Option<Image>,
 }
 
-const USAGE: &[u8] =
-    b"usage: apexd run --workers W --shards N | apexd turns LIST | apexd exec\n";
+const USAGE: &[u8] = b"usage: apexd run --workers W --shards N | apexd turns LIST | apexd exec\n";
 
 /// Does what the words ask for: the single word `exec` is for `exec_text`. Where they are no command that is
 /// built, it writes a line that tells the commands, and the status is 1, or 4 where the sink failed.

@@ -4,6 +4,8 @@
 mod command;
 mod exec;
 mod print;
+#[cfg(test)]
+mod tests;
 
 use apex_io::{StdSink, StdSource};
 use command::{Kept, top};
