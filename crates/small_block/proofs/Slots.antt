@@ -1,7 +1,7 @@
 -- A typed block names no slot but those of its locals.
 use Rattle.std.proofs.Common.{◌≡◌, ℕ, suc, ◌+◌, ◌<◌, ◌≤◌, Bool, true, false, cond, bytes_eq, List, [], ◌∷◌, ◌++◌, length, drop, map, get_or, Option, Some, None, codes, refl, sym, ap, ◌∙◌, subst, arith, append-nil, length-append, add-one, drop-cons}
 use Rattle.std.specs.Prelude.{option_map, position, nat_lt}
-use Rattle.std.specs.List.{position_or_len}
+use Rattle.std.specs.List.{position_or_len, list_any}
 use Rattle.std.proofs.lemmas.Bool.Decides.{leb_tells}
 use Rattle.std.proofs.Common.{⊎_elim}
 use Rattle.small_block.proofs.Bools.{chosen}
@@ -71,7 +71,7 @@ module _ (scope : List (List ℕ)) where
 
   slot_low : (x : List ℕ) (o : Option ℕ) → slot_of x scope ≡ o → Low n (option_map Local o)
   slot_low x None e = tt
-  slot_low x (Some i) e = let b = position_below (λ y. bytes_eq y x) scope i e in let s = slots-Local i in omega arith
+  slot_low x (Some i) e = let b = position_below (bytes_eq x) scope i e in let s = slots-Local i in omega arith
 
   minus_low : (o : Option Expr) → Low n o → Low n (option_map MinusE o)
   minus_low None h = tt
@@ -157,3 +157,8 @@ pub stmts_on : (ss : List Stmt) (i : ℕ) (t : Stmt) (scope names : List (List �
 stmts_on ss i t scope names done new whole lt is inv e =
     ap (λ o. stmts_typed o (drop (i + 1) ss)) (sym e)
     ∙ sym (ap (stmts_typed (Some (scoped scope done))) (drop-cons ss i t lt ∙ ap (λ x. x ∷ drop (suc i) ss) (sym is) ∙ ap (λ n. t ∷ drop n ss) (sym (add-one i)))) ∙ inv
+
+-- a name that is no local yet becomes the last one
+pub added : (x y : List ℕ) (scope names : List (List ℕ)) (b : Bool) → y ≡ x → b ≡ is_in_scope x scope → b ≡ false → names ≡ cond (list_any (bytes_eq y) scope) scope (scope ++ y ∷ []) → names ≡ scope ++ x ∷ []
+added x y scope names b e is f n =
+    n ∙ ap (λ z. cond (list_any (bytes_eq z) scope) scope (scope ++ z ∷ [])) e ∙ ap (λ t. cond t scope (scope ++ x ∷ [])) (sym is ∙ f)

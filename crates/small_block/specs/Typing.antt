@@ -1,6 +1,6 @@
 -- Which blocks are well typed, and what they are then (docs/language.md, "Names").
 use Rattle.std.specs.Prelude.{ℕ, Bool, cond, bytes_eq, List, [], ◌∷◌, ◌++◌, length, codes, Option, Some, None, option_map, position}
-use Rattle.std.specs.Option.{is_some}
+use Rattle.std.specs.List.{list_any}
 use Rattle.apex_syntax.specs.declared.tree.Op.{Op}
 use Rattle.apex_syntax.specs.declared.tree.Op.TheVariants.{Plus, Minus, Times, Over}
 use Rattle.apex_syntax.specs.declared.tree.SumOp.{SumOp}
@@ -24,7 +24,7 @@ use Rattle.apex_syntax.specs.Chains.{chain_onto}
 
 -- the place of a name among the locals in scope, which is its slot
 abbrev pub slot_of : List ℕ → List (List ℕ) → Option ℕ
-slot_of x scope = position (λ y. bytes_eq y x) scope
+slot_of x scope = position (bytes_eq x) scope
 
 abbrev pub sum_op_of : SumOp → Op
 sum_op_of PlusS = Plus
@@ -73,7 +73,7 @@ abbrev pub sum_typed : List (List ℕ) → Chain SumOp (Chain ProductOp Unary) �
 sum_typed scope s = chain_typed sum_op_of (chain_onto (product_typed scope) s)
 
 abbrev pub is_in_scope : List ℕ → List (List ℕ) → Bool
-is_in_scope x scope = is_some (slot_of x scope)
+is_in_scope x scope = list_any (bytes_eq x) scope
 
 -- what a statement does to the block so far: the locals in scope, and the typed statements
 pub record Scoped : Type 0 where

@@ -1,6 +1,6 @@
 // From the tree to the typed block.
 
-ghost use Rattle.std.specs.Prelude.{◌≡◌, if◌then◌else◌, bytes_eq, Some, None, IfOk, IfSome};
+ghost use Rattle.std.specs.Prelude.{◌≡◌, if◌then◌else◌, codes, bytes_eq, Some, None, IfOk, IfSome};
 ghost use Rattle.stack_compiler.specs.Code.{HasSlots};
 ghost use Rattle.small_block.specs.Typing.{slot_of, is_in_scope, sum_op_of, product_op_of, joined, unary_typed, product_typed, sum_typed, scoped, stmt_typed, block_typed};
 
@@ -8,25 +8,23 @@ use apex_list::{Boxed, Items};
 use apex_syntax::typed::{Block, Expr, Stmt as Typed};
 use apex_syntax::{Link, Op, Product, ProductOp, Stmt, Sum, SumOp, Unary};
 use apex_text::Name;
+use indexmap::IndexSet;
 use std::alloc::{AllocError, Global};
 
-fn is_same(a: &Name, b: &[u8]) -> bool
-    ensures { result ≡ bytes_eq a.now b.now }
-{
-    a.bytes() == b
-}
+// The locals in the order of their slots.
+type Scope = IndexSet<Name>;
 
 // The slot of a name.
-fn slot_in(scope: &[Name], name: &[u8]) -> Option<usize>
-    ensures { result ≡ slot_of name.now scope.now }
+fn slot_in(scope: &Scope, name: &Name) -> Option<usize>
+    ensures { result ≡ slot_of name.now scope.now.keys }
 {
-    scope.iter().position(|local| is_same(local, name))
+    scope.get_index_of(name)
 }
 
-fn is_local(scope: &[Name], name: &[u8]) -> bool
-    ensures { result ≡ is_in_scope name.now scope.now }
+fn is_local(scope: &Scope, name: &Name) -> bool
+    ensures { result ≡ is_in_scope name.now scope.now.keys }
 {
-    slot_in(scope, name).is_some()
+    scope.contains(name)
 }
 
 fn sum_operator(op: SumOp) -> Op
@@ -58,12 +56,12 @@ fn join(alloc: Global, first: Expr, links: Items<Link<Expr>>) -> Result<Expr, Al
 }
 
 #[cycle(resolve)]
-fn resolve_unary(alloc: Global, scope: &[Name], u: &Unary) -> Result<Option<Expr>, AllocError>
-    ensures { IfOk result (λ answer. answer ≡ unary_typed scope.now u.now) }
+fn resolve_unary(alloc: Global, scope: &Scope, u: &Unary) -> Result<Option<Expr>, AllocError>
+    ensures { IfOk result (λ answer. answer ≡ unary_typed scope.now.keys u.now) }
 {
     match u {
         Unary::Whole(n) => Ok(Some(Expr::Whole(*n))),
-        Unary::Name(name) => Ok(slot_in(scope, name.bytes()).map(Expr::Local)),
+        Unary::Name(name) => Ok(slot_in(scope, name).map(Expr::Local)),
         Unary::Paren(inner) => resolve_sum(alloc, scope, inner.get()),
         Unary::Minus(inner) => {
             let Some(e) = resolve_unary(alloc, scope, inner.get())? else {
@@ -77,10 +75,10 @@ fn resolve_unary(alloc: Global, scope: &[Name], u: &Unary) -> Result<Option<Expr
 #[cycle(resolve)]
 fn resolve_product(
     alloc: Global,
-    scope: &[Name],
+    scope: &Scope,
     product: &Product,
 ) -> Result<Option<Expr>, AllocError>
-    ensures { IfOk result (λ answer. answer ≡ product_typed scope.now product.now) }
+    ensures { IfOk result (λ answer. answer ≡ product_typed scope.now.keys product.now) }
 {
     let Some(first) = resolve_unary(alloc, scope, &product.first)? else {
         return Ok(None);
@@ -97,8 +95,8 @@ fn resolve_product(
 }
 
 #[cycle(resolve)]
-fn resolve_sum(alloc: Global, scope: &[Name], sum: &Sum) -> Result<Option<Expr>, AllocError>
-    ensures { IfOk result (λ answer. answer ≡ sum_typed scope.now sum.now) }
+fn resolve_sum(alloc: Global, scope: &Scope, sum: &Sum) -> Result<Option<Expr>, AllocError>
+    ensures { IfOk result (λ answer. answer ≡ sum_typed scope.now.keys sum.now) }
 {
     let Some(first) = resolve_product(alloc, scope, &sum.first)? else {
         return Ok(None);
@@ -117,16 +115,18 @@ fn resolve_sum(alloc: Global, scope: &[Name], sum: &Sum) -> Result<Option<Expr>,
 // One statement more: false where it isn't well typed.
 fn resolve_stmt(
     alloc: Global,
-    scope: &mut Vec<Name>,
+    scope: &mut Scope,
+    system: &Name,
     done: &mut Items<Typed>,
     stmt: &Stmt,
 ) -> Result<bool, AllocError>
-    ensures { IfOk result (λ good. stmt_typed (scoped scope.old.items done.old) stmt.now ≡ (if good then Some (scoped scope.new.items done.new) else None)) }
+    requires { system.now ≡ codes "system" }
+    ensures { IfOk result (λ good. stmt_typed (scoped scope.old.keys done.old) stmt.now ≡ (if good then Some (scoped scope.new.keys done.new) else None)) }
 {
     match stmt {
         Stmt::Empty => Ok(true),
         Stmt::Debug(value) => {
-            if is_local(scope, b"system") {
+            if is_local(scope, system) {
                 return Ok(false);
             }
             let Some(e) = resolve_sum(alloc, scope, value)? else {
@@ -136,14 +136,14 @@ fn resolve_stmt(
             Ok(true)
         }
         Stmt::Declare(name, value) => {
-            if is_local(scope, name.bytes()) {
+            if is_local(scope, name) {
                 return Ok(false);
             }
             let Some(e) = resolve_sum(alloc, scope, value)? else {
                 return Ok(false);
             };
-            done.push(Typed::Store(scope.as_slice().len(), e))?;
-            scope.push(name.copy()?)?;
+            done.push(Typed::Store(scope.len(), e))?;
+            scope.insert(name.copy()?)?;
             Ok(true)
         }
     }
@@ -154,10 +154,11 @@ pub fn resolve(alloc: Global, stmts: &[Stmt]) -> Result<Option<Block>, AllocErro
     ensures typed { IfOk result (λ answer. answer ≡ block_typed stmts.now) }
     ensures slots { IfOk result (λ answer. IfSome answer HasSlots) }
 {
-    let mut scope = Vec::new(alloc);
+    let system = Name::of(alloc, b"system")?;
+    let mut scope = Scope::new(alloc);
     let mut done = Items::new(alloc);
     for stmt in stmts {
-        let good = resolve_stmt(alloc, &mut scope, &mut done, stmt)?;
+        let good = resolve_stmt(alloc, &mut scope, &system, &mut done, stmt)?;
         if !good {
             return Ok(None);
         }

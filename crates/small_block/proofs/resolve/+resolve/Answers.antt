@@ -19,13 +19,13 @@ resolve_product-resolve_unary-requires-in-loop-tail t c =
 pub resolve_product-loop-tail-preserved : goal.resolve_product-loop-tail-preserved
 resolve_product-loop-tail-preserved t c = record {
   first = c.loop-tail.invariant.first;
-  links = links_on Unary ProductOp (unary_typed c.args.scope.now) product_op_of c.loop-tail.links c.push.new.self c.as_slice-tail-items.result.now c.loop-tail.tail-index c.tail-item.result c.in-Some-2.right c.product_operator-op.result _ c.loop-tail-test.true c.tail-item.is c.loop-tail.invariant.links (sym (rw c.in-Some-2.is at c.in_ok-right.ensures)) c.product_operator-op.ensures c.in_ok-push.ensures.ok;
+  links = links_on Unary ProductOp (unary_typed c.args.scope.now.keys) product_op_of c.loop-tail.links c.push.new.self c.as_slice-tail-items.result.now c.loop-tail.tail-index c.tail-item.result c.in-Some-2.right c.product_operator-op.result _ c.loop-tail-test.true c.tail-item.is c.loop-tail.invariant.links (sym (rw c.in-Some-2.is at c.in_ok-right.ensures)) c.product_operator-op.ensures c.in_ok-push.ensures.ok;
 }
 
 pub resolve_product-returns : goal.resolve_product-returns
 resolve_product-returns t c =
-    let all = links_done Unary ProductOp (unary_typed c.args.scope.now) product_op_of c.loop-tail.links c.as_slice-tail-items.result.now c.loop-tail.tail-index _ c.loop-tail-test.false c.loop-tail.invariant.links in
-    chain_is product_op_of (chain_onto (unary_typed c.args.scope.now) c.args.product.now) _ c.loop-tail.links c.in_ok-join.field-0 c.loop-tail.invariant.first (ap (λ l. links_typed product_op_of (map (tail_onto (unary_typed c.args.scope.now)) l)) (sym c.as_slice-tail-items.ensures) ∙ all) c.in_ok-join.ensures
+    let all = links_done Unary ProductOp (unary_typed c.args.scope.now.keys) product_op_of c.loop-tail.links c.as_slice-tail-items.result.now c.loop-tail.tail-index _ c.loop-tail-test.false c.loop-tail.invariant.links in
+    chain_is product_op_of (chain_onto (unary_typed c.args.scope.now.keys) c.args.product.now) _ c.loop-tail.links c.in_ok-join.field-0 c.loop-tail.invariant.first (ap (λ l. links_typed product_op_of (map (tail_onto (unary_typed c.args.scope.now.keys)) l)) (sym c.as_slice-tail-items.ensures) ∙ all) c.in_ok-join.ensures
 
 pub resolve_sum-resolve_product-requires-in-loop-tail : goal.resolve_sum-resolve_product-requires-in-loop-tail
 resolve_sum-resolve_product-requires-in-loop-tail t c =
@@ -36,13 +36,13 @@ resolve_sum-resolve_product-requires-in-loop-tail t c =
 pub resolve_sum-loop-tail-preserved : goal.resolve_sum-loop-tail-preserved
 resolve_sum-loop-tail-preserved t c = record {
   first = c.loop-tail.invariant.first;
-  links = links_on (Chain ProductOp Unary) SumOp (product_typed c.args.scope.now) sum_op_of c.loop-tail.links c.push.new.self c.as_slice-tail-items.result.now c.loop-tail.tail-index c.tail-item.result c.in-Some-2.right c.sum_operator-op.result _ c.loop-tail-test.true c.tail-item.is c.loop-tail.invariant.links (sym (rw c.in-Some-2.is at c.in_ok-right.ensures)) c.sum_operator-op.ensures c.in_ok-push.ensures.ok;
+  links = links_on (Chain ProductOp Unary) SumOp (product_typed c.args.scope.now.keys) sum_op_of c.loop-tail.links c.push.new.self c.as_slice-tail-items.result.now c.loop-tail.tail-index c.tail-item.result c.in-Some-2.right c.sum_operator-op.result _ c.loop-tail-test.true c.tail-item.is c.loop-tail.invariant.links (sym (rw c.in-Some-2.is at c.in_ok-right.ensures)) c.sum_operator-op.ensures c.in_ok-push.ensures.ok;
 }
 
 pub resolve_sum-returns : goal.resolve_sum-returns
 resolve_sum-returns t c =
-    let all = links_done (Chain ProductOp Unary) SumOp (product_typed c.args.scope.now) sum_op_of c.loop-tail.links c.as_slice-tail-items.result.now c.loop-tail.tail-index _ c.loop-tail-test.false c.loop-tail.invariant.links in
-    chain_is sum_op_of (chain_onto (product_typed c.args.scope.now) c.args.sum.now) _ c.loop-tail.links c.in_ok-join.field-0 c.loop-tail.invariant.first (ap (λ l. links_typed sum_op_of (map (tail_onto (product_typed c.args.scope.now)) l)) (sym c.as_slice-tail-items.ensures) ∙ all) c.in_ok-join.ensures
+    let all = links_done (Chain ProductOp Unary) SumOp (product_typed c.args.scope.now.keys) sum_op_of c.loop-tail.links c.as_slice-tail-items.result.now c.loop-tail.tail-index _ c.loop-tail-test.false c.loop-tail.invariant.links in
+    chain_is sum_op_of (chain_onto (product_typed c.args.scope.now.keys) c.args.sum.now) _ c.loop-tail.links c.in_ok-join.field-0 c.loop-tail.invariant.first (ap (λ l. links_typed sum_op_of (map (tail_onto (product_typed c.args.scope.now.keys)) l)) (sym c.as_slice-tail-items.ensures) ∙ all) c.in_ok-join.ensures
 
 pub resolve_unary-resolve_sum-requires : goal.resolve_unary-resolve_sum-requires
 resolve_unary-resolve_sum-requires t c =
@@ -51,4 +51,4 @@ resolve_unary-resolve_sum-requires t c =
 
 pub resolve_unary-returns-in-Paren : goal.resolve_unary-returns-in-Paren
 resolve_unary-returns-in-Paren t c =
-    ok_along c.resolve_sum.result _ _ (ap (sum_typed c.args.scope.now) c.get.ensures ∙ sym (typed-Paren c.args.scope.now c.in-Paren.inner) ∙ ap (unary_typed c.args.scope.now) (sym c.in-Paren.is)) c.resolve_sum.ensures
+    ok_along c.resolve_sum.result _ _ (ap (sum_typed c.args.scope.now.keys) c.get.ensures ∙ sym (typed-Paren c.args.scope.now.keys c.in-Paren.inner) ∙ ap (unary_typed c.args.scope.now.keys) (sym c.in-Paren.is)) c.resolve_sum.ensures

@@ -16,12 +16,12 @@ decreases-resolve_sum l = 3 * sum_depth l.sum.now + 2
 
 abbrev pub invariant-resolve_product-loop-tail : goal.invariant-resolve_product-loop-tail
 invariant-resolve_product-loop-tail l = record {
-  first : unary_typed l.scope l.product.first ≡ Some l.first;
-  links : prepend l.links (links_typed product_op_of (map (tail_onto (unary_typed l.scope)) (drop l.tail-index l.tail-items))) ≡ links_typed product_op_of (map (tail_onto (unary_typed l.scope)) l.tail-items);
+  first : unary_typed l.scope.keys l.product.first ≡ Some l.first;
+  links : prepend l.links (links_typed product_op_of (map (tail_onto (unary_typed l.scope.keys)) (drop l.tail-index l.tail-items))) ≡ links_typed product_op_of (map (tail_onto (unary_typed l.scope.keys)) l.tail-items);
 }
 
 abbrev pub invariant-resolve_sum-loop-tail : goal.invariant-resolve_sum-loop-tail
 invariant-resolve_sum-loop-tail l = record {
-  first : product_typed l.scope l.sum.first ≡ Some l.first;
-  links : prepend l.links (links_typed sum_op_of (map (tail_onto (product_typed l.scope)) (drop l.tail-index l.tail-items))) ≡ links_typed sum_op_of (map (tail_onto (product_typed l.scope)) l.tail-items);
+  first : product_typed l.scope.keys l.sum.first ≡ Some l.first;
+  links : prepend l.links (links_typed sum_op_of (map (tail_onto (product_typed l.scope.keys)) (drop l.tail-index l.tail-items))) ≡ links_typed sum_op_of (map (tail_onto (product_typed l.scope.keys)) l.tail-items);
 }
