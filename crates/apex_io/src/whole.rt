@@ -120,3 +120,69 @@ pub fn write_all<K: Sink>(sink: &mut K, text: &[u8]) -> Result<(), WriteFault>
     }
     Ok(())
 }
+
+#[cfg(test)]
+mod tests {
+    use super::*;
+    use crate::memory::{MemSink, MemSource};
+    use std::test::Fail;
+
+    #[test]
+    fn reads_in_pieces(rt: HostRuntime) -> Result<(), Fail> {
+        let rows = [("", 3, 1), ("abc", 3, 1), ("abc", 3, 2), ("abc", 100, 7)];
+        for (text, most, give) in rows {
+            let bytes = Vec::from_slice(rt.alloc(), text.as_bytes())?;
+            assert!(rt; give > 0);
+            let mut source = MemSource::new(bytes, give, Vec::new(rt.alloc()));
+            match read_all(rt.alloc(), &mut source, most) {
+                Ok(got) => assert_eq!(rt; got.as_slice(), text.as_bytes()),
+                Err(_) => return Err("a fault".into()),
+            }
+        }
+        Ok(())
+    }
+
+    #[test]
+    fn reads_one_byte_past_the_limit(rt: HostRuntime) -> Result<(), Fail> {
+        let bytes = Vec::from_slice(rt.alloc(), b"abcdefgh")?;
+        let mut source = MemSource::new(bytes, 100, Vec::new(rt.alloc()));
+        let got = read_all(rt.alloc(), &mut source, 3);
+        assert!(rt; matches!(got, Err(ReadFault::TooLong)));
+        // the bytes behind that one are still there
+        match read_all(rt.alloc(), &mut source, 100) {
+            Ok(rest) => assert_eq!(rt; rest.as_slice(), b"efgh".as_slice()),
+            Err(_) => return Err("a fault".into()),
+        }
+        Ok(())
+    }
+
+    #[test]
+    fn a_pull_fails(rt: HostRuntime) -> Result<(), Fail> {
+        let bytes = Vec::from_slice(rt.alloc(), b"abc")?;
+        let mut source = MemSource::new(bytes, 1, Vec::from_slice(rt.alloc(), &[2])?);
+        let got = read_all(rt.alloc(), &mut source, 100);
+        assert!(rt; matches!(got, Err(ReadFault::Failed)));
+        assert_eq!(rt; source.faults(), 1);
+        assert_eq!(rt; source.calls(), 3);
+        Ok(())
+    }
+
+    #[test]
+    fn writes_in_pieces(rt: HostRuntime) -> Result<(), Fail> {
+        let mut sink = MemSink::new(rt.alloc(), 2, Vec::new(rt.alloc()));
+        assert!(rt; write_all(&mut sink, b"abcde").is_ok());
+        assert!(rt; write_all(&mut sink, b"").is_ok());
+        assert_eq!(rt; sink.bytes(), b"abcde".as_slice());
+        assert_eq!(rt; sink.calls(), 3);
+        Ok(())
+    }
+
+    #[test]
+    fn a_push_fails(rt: HostRuntime) -> Result<(), Fail> {
+        let mut sink = MemSink::new(rt.alloc(), 2, Vec::from_slice(rt.alloc(), &[1])?);
+        assert!(rt; write_all(&mut sink, b"abcde").is_err());
+        assert_eq!(rt; sink.bytes(), b"ab".as_slice());
+        assert_eq!(rt; sink.faults(), 1);
+        Ok(())
+    }
+}

@@ -103,3 +103,29 @@ impl Hash for Text {
         state.write_u8(255);
     }
 }
+
+#[cfg(test)]
+mod tests {
+    use super::*;
+    use std::test::Fail;
+
+    #[test]
+    fn texts(rt: HostRuntime) -> Result<(), Fail> {
+        let rows: [(&[u8], bool); 5] = [
+            (b"", true),
+            (b"abc", true),
+            (&[195, 169], true),
+            (&[195], false),
+            (&[255], false),
+        ];
+        for (bytes, fine) in rows {
+            let text = Text::of(rt.alloc(), Vec::from_slice(rt.alloc(), bytes)?)?;
+            assert_eq!(rt; text.is_some(), fine);
+            if let Some(text) = text {
+                assert_eq!(rt; text.bytes(), bytes);
+                assert!(rt; text.copy()? == text);
+            }
+        }
+        Ok(())
+    }
+}

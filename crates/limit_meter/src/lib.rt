@@ -107,3 +107,43 @@ impl Meter {
         self.counts[place(kind)]
     }
 }
+
+#[cfg(test)]
+mod tests {
+    use super::*;
+    use std::test::Fail;
+
+    const KINDS: [LimitKind; 8] = [
+        LimitKind::Queries,
+        LimitKind::Rows,
+        LimitKind::Dml,
+        LimitKind::Saved,
+        LimitKind::Depth,
+        LimitKind::Steps,
+        LimitKind::Alloc,
+        LimitKind::Calls,
+    ];
+
+    #[test]
+    fn the_limit_fits_and_one_more_does_not(rt: HostRuntime) -> Result<(), Fail> {
+        for kind in KINDS {
+            let mut meter = Meter::new();
+            let most = most_of(kind);
+            assert!(rt; meter.charge(kind, most as u64).is_ok());
+            assert!(rt; meter.charge(kind, 0).is_ok());
+            match meter.charge(kind, 1) {
+                Ok(()) => return Err("it fits".into()),
+                Err(limit) => {
+                    assert_eq!(rt; limit.kind, kind);
+                    assert_eq!(rt; limit.number, most + 1);
+                }
+            }
+            assert!(rt; meter.charge(kind, u64::MAX).is_err());
+            for other in KINDS {
+                let wanted = if other == kind { most } else { 0 };
+                assert_eq!(rt; meter.count(other), wanted);
+            }
+        }
+        Ok(())
+    }
+}
