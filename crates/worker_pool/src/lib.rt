@@ -104,7 +104,10 @@ mod tests {
             let barrier = Barrier::new(n);
             let mut jobs = Vec::new(rt.alloc());
             for _ in 0..n {
-                jobs.push(Meets { barrier: &barrier, met: false })?;
+                jobs.push(Meets {
+                    barrier: &barrier,
+                    met: false,
+                })?;
             }
             run_all(&rt, &mut jobs, n);
             for job in jobs.iter() {
