@@ -49,6 +49,55 @@ const REFUSED: &str = "refused block 1:1 NotYet\n";
 #[test]
 fn small_blocks(rt: HostRuntime) -> Result<(), Fail> {
     let rows = [
+        ("System.debug(7 / -2);", "steps=1 ops=7 ok\n| -3\n"),
+        ("System.debug(-7 / -2);", "steps=1 ops=8 ok\n| 3\n"),
+        ("System.debug(0 / 5);", "steps=1 ops=6 ok\n| 0\n"),
+        ("System.debug(5 / 10 * 10);", "steps=1 ops=8 ok\n| 0\n"),
+        ("System.debug(10 * 5 / 10);", "steps=1 ops=8 ok\n| 5\n"),
+        ("System.debug(1 - (2 - 3));", "steps=1 ops=8 ok\n| 2\n"),
+        ("System.debug(- 2 * 3);", "steps=1 ops=7 ok\n| -6\n"),
+        ("System.debug(2 * - 3);", "steps=1 ops=7 ok\n| -6\n"),
+        ("System.debug(1 - - 1);", "steps=1 ops=7 ok\n| 2\n"),
+        ("System.debug(- - - 4);", "steps=1 ops=7 ok\n| -4\n"),
+        ("System.debug(((((5)))));", "steps=1 ops=4 ok\n| 5\n"),
+        (
+            "Integer a = 1; Integer B = A + 1; System.debug(b);",
+            "steps=3 ops=12 ok\n| 2\n",
+        ),
+        (
+            "Integer x = 1; System.debug(x / (x - x));",
+            "steps=2 ops=10 thrown MathException: Divide by 0\n",
+        ),
+        (
+            "System.debug(1 / 0 + 1 / 0);",
+            "steps=1 ops=5 thrown MathException: Divide by 0\n",
+        ),
+        (
+            "System.debug(1); System.debug(2); Integer x = 1 / 0; System.debug(3);",
+            "steps=3 ops=11 thrown MathException: Divide by 0\n| 1\n| 2\n",
+        ),
+        ("/* Integer x = 1; */", "steps=0 ops=1 ok\n"),
+        ("System.debug(1)\n;", "steps=1 ops=4 ok\n| 1\n"),
+        (
+            "System.debug(2147483647);",
+            "steps=1 ops=4 ok\n| 2147483647\n",
+        ),
+        (
+            "System.debug(-2147483647);",
+            "steps=1 ops=5 ok\n| -2147483647\n",
+        ),
+        (
+            "System.debug(46341 * 46341);",
+            "steps=1 ops=6 ok\n| -2147479015\n",
+        ),
+        (
+            "System.debug(-2147483647 - 2);",
+            "steps=1 ops=7 ok\n| 2147483647\n",
+        ),
+        (
+            "integer INTEGERS = 3; system.DEBUG(integers * Integers);",
+            "steps=2 ops=9 ok\n| 9\n",
+        ),
         ("System.debug(1+2);", "steps=1 ops=6 ok\n| 3\n"),
         ("", "steps=0 ops=1 ok\n"),
         (";;", "steps=0 ops=1 ok\n"),
