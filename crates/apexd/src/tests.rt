@@ -100,6 +100,7 @@ fn small_blocks(rt: HostRuntime) -> Result<(), Fail> {
         ),
         ("System.debug(1+2);", "steps=1 ops=6 ok\n| 3\n"),
         ("", "steps=0 ops=1 ok\n"),
+        (";;", "steps=0 ops=1 ok\n"),
         (
             "Integer i = 2147483647; System.debug(i + 1);",
             "steps=2 ops=9 ok\n| -2147483648\n",
@@ -186,8 +187,6 @@ fn small_blocks(rt: HostRuntime) -> Result<(), Fail> {
 fn other_texts(rt: HostRuntime) -> Result<(), Fail> {
     let rows = [
         "Long x = 1L;",
-        ";",
-        "System.debug(1);;",
         "System.debug(1)",
         "System.debug();",
         "System.debug(1;",

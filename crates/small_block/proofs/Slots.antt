@@ -145,7 +145,9 @@ with_slots scope names more done new make (Some x) f h e =
     subst (λ y. FitsStmts (length y) new) a (subst (FitsStmts (length (scope ++ more))) b (fits-append (length (scope ++ more)) done (make x ∷ []) (all_more (length scope) (length (scope ++ more)) done (omega arith) h) (f x refl, tt)))
 
 pub stmt_slots : (scope names : List (List ℕ)) (done new : List Typed) (t : Stmt) → FitsStmts (length scope) done → stmt_typed (scoped scope done) t ≡ Some (scoped names new) → FitsStmts (length names) new
-stmt_slots scope names done new Empty h e = let z : None ≡ Some (scoped names new) = e in cc
+stmt_slots scope names done new Empty h e =
+    let s : scoped scope done ≡ scoped names new = cc in
+    subst (λ y. FitsStmts (length y.scope) y.done) s h
 stmt_slots scope names done new (Debug v) h e =
     with_slots scope names [] done new DebugT (sum_typed scope v) (λ x k. let l = sum_low scope v x k in let m = length-append scope [] in omega arith) h (chosen_none (is_in_scope (codes "system") scope) _ (scoped names new) e)
 stmt_slots scope names done new (Declare x v) h e =

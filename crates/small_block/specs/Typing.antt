@@ -87,9 +87,9 @@ abbrev pub with_stmt : Scoped → List (List ℕ) → (Expr → Typed) → Optio
 with_stmt s names make None = None
 with_stmt s names make (Some e) = Some (record { scope = s.scope ++ names; done = s.done ++ make e ∷ [] })
 
--- `;` alone is no statement of a small block; `System` must not be a local; a local has a new name, and is in scope behind its own value
+-- `System` must not be a local; a local has a new name, and is in scope behind its own value
 abbrev pub stmt_typed : Scoped → Stmt → Option Scoped
-stmt_typed s Empty = None
+stmt_typed s Empty = Some s
 stmt_typed s (Debug e) = cond (is_in_scope (codes "system") s.scope) None (with_stmt s [] DebugT (sum_typed s.scope e))
 stmt_typed s (Declare x e) =
     cond (is_in_scope x s.scope) None (with_stmt s (x ∷ []) (Store (length s.scope)) (sum_typed s.scope e))

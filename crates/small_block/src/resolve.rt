@@ -124,7 +124,7 @@ fn resolve_stmt(
     ensures { IfOk result (λ good. stmt_typed (scoped scope.old.keys done.old) stmt.now ≡ (if good then Some (scoped scope.new.keys done.new) else None)) }
 {
     match stmt {
-        Stmt::Empty => Ok(false),
+        Stmt::Empty => Ok(true),
         Stmt::Debug(value) => {
             if is_local(scope, system) {
                 return Ok(false);
