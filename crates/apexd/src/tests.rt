@@ -49,6 +49,18 @@ const REFUSED: &str = "refused block 1:1 NotYet\n";
 #[test]
 fn small_blocks(rt: HostRuntime) -> Result<(), Fail> {
     let rows = [
+        (
+            "Integer integer = 1; System.debug(integer - 1);",
+            "steps=2 ops=9 ok\n| 0\n",
+        ),
+        (
+            "Integer id = 1; System.debug((id - 1));",
+            "steps=2 ops=9 ok\n| 0\n",
+        ),
+        (
+            "Integer id = 1; System.debug(id);",
+            "steps=2 ops=7 ok\n| 1\n",
+        ),
         ("System.debug(7 / -2);", "steps=1 ops=7 ok\n| -3\n"),
         ("System.debug(-7 / -2);", "steps=1 ops=8 ok\n| 3\n"),
         ("System.debug(0 / 5);", "steps=1 ops=6 ok\n| 0\n"),
@@ -187,6 +199,9 @@ fn small_blocks(rt: HostRuntime) -> Result<(), Fail> {
 fn other_texts(rt: HostRuntime) -> Result<(), Fail> {
     let rows = [
         "Long x = 1L;",
+        "Integer integer = 1; System.debug((integer) - 1);",
+        "Integer id = 1; System.debug(2 * (ID));",
+        "System.debug((Integer) 1);",
         "System.debug(1)",
         "System.debug();",
         "System.debug(1;",

@@ -4,3 +4,4 @@ pub mod Grammar
 pub mod Reading
 pub mod Typing
 pub mod SmallBlocks
+pub mod Casts

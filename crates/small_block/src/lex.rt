@@ -154,7 +154,7 @@ fn is_reserved_word(name: &Name) -> bool
     is_among(&RESERVED, name.bytes())
 }
 
-fn is_among(words: &[&str], text: &[u8]) -> bool
+pub fn is_among(words: &[&str], text: &[u8]) -> bool
     ensures { result ≡ list_any (λ w. bytes_eq w.now text.now) words.now }
 {
     for word in words {

@@ -59,3 +59,8 @@ pub const RESERVED: [&str; 36] = [
     "void",
     "while",
 ];
+
+/// The primitive types. One of them in parentheses begins a cast.
+pub const PRIMITIVES: [&str; 8] = [
+    "boolean", "date", "datetime", "decimal", "id", "integer", "long", "string",
+];
