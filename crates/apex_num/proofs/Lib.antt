@@ -1,0 +1,4 @@
+mod Checks
+mod HalfEven
+mod Printing
+mod Reading

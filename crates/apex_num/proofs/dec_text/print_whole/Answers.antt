@@ -1,0 +1,6 @@
+use Rattle.std.proofs.Common.{rules}
+use Rattle.std.proofs.lemmas.Slice.{overwrites}
+use Rattle.apex_num.proofs.dec_text.print_whole.Goals as goal
+
+pub returns-clause-after : goal.returns-clause-after
+returns-clause-after c = search (rules, overwrites)
