@@ -28,10 +28,20 @@ pub trait Keyed {
         ensures { result.now ≡ key self.now };
 }
 
+/// A word is its own key, so that a list of words is a table.
+impl Keyed for &'static str {
+    ghost key = { λ word. word.now };
+
+    fn key(&self) -> &[u8] {
+        self.as_bytes()
+    }
+}
+
 /// A table whose keys rise strictly by bytes. It borrows its rows and takes no memory.
 #[derive(Drop)]
 pub struct Cases<'a, R: Keyed, const N: usize> {
-    rows: &'a [R],
+    /// The rows, in the order of their keys.
+    pub rows: &'a [R],
     ghost count: { length rows.now ≡ N },
     ghost rises: { Rises R.key rows.now },
 }

@@ -3,6 +3,7 @@ pub mod Chains
 pub mod Digits
 pub mod Exprs
 pub mod Gaps
+pub mod Keywords
 pub mod Resolves
 pub mod Signs
 pub mod Slots

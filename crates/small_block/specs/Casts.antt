@@ -1,13 +1,16 @@
 -- Casts, which no small block has (docs/formats.md, "Grammar").
-use Rattle.std.specs.Prelude.{◌≡◌, ℕ, ◌+◌, ◌-◌, ◌<◌, ◌&&◌, not, Bool, true, false, List, length, Option, Some, None, slice_get, bytes_eq}
+use Rattle.std.specs.Prelude.{◌≡◌, ℕ, ◌+◌, ◌-◌, ◌<◌, ◌&&◌, not, Bool, true, false, List, length, Option, Some, None, slice_get, bytes_eq, map}
 use Rattle.std.specs.List.{list_any}
 use Rattle.small_block.specs.declared.token.TheConstants.{PRIMITIVES}
 use Rattle.small_block.specs.declared.token.Token.{Token}
 use Rattle.small_block.specs.declared.token.Token.TheVariants.{Word, Open, Close}
 
 -- the name of a primitive type
+unfoldable pub primitive_types : List (List ℕ)
+primitive_types = map (λ w. w.now) PRIMITIVES
+
 unfoldable pub is_primitive : List ℕ → Bool
-is_primitive x = list_any (λ w. bytes_eq w.now x) PRIMITIVES
+is_primitive x = list_any (λ w. bytes_eq w x) primitive_types
 
 abbrev pub is_open : Token → Bool
 is_open Open = true

@@ -5,3 +5,4 @@ pub mod Reading
 pub mod Typing
 pub mod SmallBlocks
 pub mod Casts
+pub mod Words

@@ -1,5 +1,5 @@
 -- The tokens of a text (docs/formats.md, "Tokens").
-use Rattle.std.specs.Prelude.{◌≡◌, ℕ, ◌+◌, ◌-◌, ◌*◌, ◌^◌, ◌<◌, ◌||◌, ◌&&◌, not, pos, Bool, true, false, eqb, List, [], ◌∷◌, ◌++◌, codes, bytes_eq}
+use Rattle.std.specs.Prelude.{◌≡◌, ℕ, ◌+◌, ◌-◌, ◌*◌, ◌^◌, ◌<◌, ◌||◌, ◌&&◌, not, pos, Bool, true, false, eqb, List, [], ◌∷◌, ◌++◌, codes, bytes_eq, map}
 use Rattle.std.specs.List.{list_any}
 use Rattle.std.specs.Char.{is_ascii_digit, is_ascii_alphabetic}
 use Rattle.apex_text.specs.Fold.{folded}
@@ -56,8 +56,11 @@ abbrev pub is_one_of : List ℕ → ℕ → Bool
 is_one_of these b = list_any (λ x. eqb x b) these
 
 -- the words that are no names
+unfoldable pub reserved_words : List (List ℕ)
+reserved_words = map (λ w. w.now) RESERVED
+
 unfoldable pub is_reserved : List ℕ → Bool
-is_reserved x = list_any (λ w. bytes_eq w.now x) RESERVED
+is_reserved x = list_any (λ w. bytes_eq w x) reserved_words
 
 -- the value of decimal digits behind others
 abbrev pub digits_value : ℕ → List ℕ → ℕ

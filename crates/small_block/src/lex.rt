@@ -3,17 +3,36 @@
 ghost use Rattle.std.specs.Prelude.{◌≡◌, ◌+◌, ◌*◌, ◌||◌, ℕ, ◌^◌, ◌<◌, ◌≤◌, pos, List, Some, None, length, eqb, bytes_eq, MatchOption, IfOk, IfSome, IfNone};
 ghost use Rattle.apex_text.specs.Fold.{folded};
 ghost use Rattle.small_block.specs.declared.token.Token.{Token as TheToken};
-ghost use Rattle.small_block.specs.Tokens.{is_blank, is_word_byte, begins, is_one_of, is_reserved, digits_value, HasTokens};
+ghost use Rattle.small_block.specs.Tokens.{is_blank, is_word_byte, begins, is_one_of, is_reserved, reserved_words, digits_value, HasTokens};
 ghost use Rattle.small_block.specs.Lexing.{after_line as line_end, after_block as block_end, comment_at as behind_comment, gap_at as behind_gap, test_of, front, ends_number as no_more, word_of, number_of, sign_at, token_at as first_token, unless as unless_then, tail_test, IsToken};
+ghost use Rattle.small_block.specs.Words.{keys};
 ghost use Rattle.std.specs.Char.{is_ascii_digit};
 ghost use Rattle.std.specs.List.{list_any};
 
 use crate::token::{RESERVED, Token};
+use crate::words::{is_among, reserved_table};
 use apex_text::Name;
+use case_tables::Cases;
 use std::alloc::{AllocError, Global};
 
 /// The tokens of a text, or `None` exactly where it has a token that no small block has, or a fault.
 pub fn lex(alloc: Global, text: &[u8]) -> Result<Option<Vec<Token>>, AllocError>
+    ensures found { IfOk result (λ answer. IfSome answer (λ tokens. HasTokens text.now tokens.items)) }
+    ensures only { IfOk result (λ answer. IfSome answer (λ tokens. (others : List TheToken) → HasTokens text.now others → others ≡ tokens.items)) }
+    ensures none { IfOk result (λ answer. IfNone answer ((others : List TheToken) → HasTokens text.now others → ⊥)) }
+{
+    let reserved = RESERVED;
+    let words = reserved_table(&reserved);
+    lex_with(alloc, &words, text)
+}
+
+// The tokens of a text, by the table of the reserved words.
+fn lex_with(
+    alloc: Global,
+    words: &Cases<&'static str, 36>,
+    text: &[u8],
+) -> Result<Option<Vec<Token>>, AllocError>
+    requires { keys words.now.rows.now ≡ reserved_words }
     ensures found { IfOk result (λ answer. IfSome answer (λ tokens. HasTokens text.now tokens.items)) }
     ensures only { IfOk result (λ answer. IfSome answer (λ tokens. (others : List TheToken) → HasTokens text.now others → others ≡ tokens.items)) }
     ensures none { IfOk result (λ answer. IfNone answer ((others : List TheToken) → HasTokens text.now others → ⊥)) }
@@ -25,7 +44,7 @@ pub fn lex(alloc: Global, text: &[u8]) -> Result<Option<Vec<Token>>, AllocError>
             rest = behind;
             continue;
         }
-        let Some((token, behind)) = token_at(alloc, rest)? else {
+        let Some((token, behind)) = token_at(alloc, words, rest)? else {
             break;
         };
         tokens.push(token)?;
@@ -148,33 +167,25 @@ fn comment_at(text: &[u8]) -> Option<&[u8]>
 }
 
 // Whether the word is reserved, in its folded form.
-fn is_reserved_word(name: &Name) -> bool
+fn is_reserved_word(words: &Cases<&'static str, 36>, name: &Name) -> bool
+    requires { keys words.now.rows.now ≡ reserved_words }
     ensures { result ≡ is_reserved name.now }
 {
-    is_among(&RESERVED, name.bytes())
-}
-
-pub fn is_among(words: &[&str], text: &[u8]) -> bool
-    ensures { result ≡ list_any (λ w. bytes_eq w.now text.now) words.now }
-{
-    for word in words {
-        if word.as_bytes() == text {
-            return true;
-        }
-    }
-    false
+    is_among(words, name.bytes())
 }
 
 // The name token, if it is no reserved word.
 fn word<'a>(
     alloc: Global,
+    words: &Cases<&'static str, 36>,
     text: &[u8],
     rest: &'a [u8],
 ) -> Result<Option<(Token, &'a [u8])>, AllocError>
+    requires { keys words.now.rows.now ≡ reserved_words }
     ensures { IfOk result (λ answer. IsToken answer (word_of text.now rest.now)) }
 {
     let name = Name::of(alloc, text)?;
-    if is_reserved_word(&name) {
+    if is_reserved_word(words, &name) {
         return Ok(None);
     }
     Ok(Some((Token::Word(name), rest)))
@@ -265,7 +276,12 @@ fn sign(b: u8, rest: &[u8]) -> Option<(Token, &[u8])>
 }
 
 // The token that the text begins with, and what is behind it.
-fn token_at(alloc: Global, text: &[u8]) -> Result<Option<(Token, &[u8])>, AllocError>
+fn token_at<'a>(
+    alloc: Global,
+    words: &Cases<&'static str, 36>,
+    text: &'a [u8],
+) -> Result<Option<(Token, &'a [u8])>, AllocError>
+    requires { keys words.now.rows.now ≡ reserved_words }
     ensures { IfOk result (λ answer. IsToken answer (first_token text.now)) }
 {
     let Some((b, rest)) = text.split_first() else {
@@ -273,7 +289,7 @@ fn token_at(alloc: Global, text: &[u8]) -> Result<Option<(Token, &[u8])>, AllocE
     };
     if b.is_ascii_alphabetic() {
         let (name, behind) = text.split_at(run_length(Run::Words, text));
-        return word(alloc, name, behind);
+        return word(alloc, words, name, behind);
     }
     if b.is_ascii_digit() {
         let (digits, behind) = text.split_at(run_length(Run::Digits, text));

@@ -14,6 +14,7 @@ mod lex;
 mod parse;
 mod resolve;
 mod token;
+mod words;
 
 use apex_syntax::typed::Block;
 use std::alloc::{AllocError, Global};

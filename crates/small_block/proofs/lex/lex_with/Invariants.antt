@@ -1,6 +1,6 @@
 use Rattle.std.proofs.Common.{length}
 use Rattle.small_block.proofs.Pieces.{SoFar}
-use Rattle.small_block.proofs.lex.lex.Given as goal
+use Rattle.small_block.proofs.lex.lex_with.Given as goal
 
 abbrev pub invariant-pieces : goal.invariant-pieces
 invariant-pieces l = SoFar l.text l.rest l.tokens.items
