@@ -13,7 +13,10 @@ pub struct StdSource {
 }
 
 impl StdSource {
-    pub fn new(input: Stdin) -> StdSource {
+    /// Standard input, of which nothing was read and no read failed.
+    pub fn new(input: Stdin) -> StdSource
+        ensures { result.faults ≡ 0 }
+    {
         StdSource { input, faults: 0 }
     }
 }
@@ -45,7 +48,10 @@ pub struct StdSink {
 }
 
 impl StdSink {
-    pub fn new(output: Stdout) -> StdSink {
+    /// Standard output, to which nothing was written and no write failed.
+    pub fn new(output: Stdout) -> StdSink
+        ensures { result.faults ≡ 0 }
+    {
         StdSink { output, faults: 0 }
     }
 }

@@ -1,6 +1,6 @@
 // What the words of the command line ask for.
 
-ghost use Rattle.std.specs.Prelude.{◌≡◌, ◌≤◌, ◌+◌, None, map};
+ghost use Rattle.std.specs.Prelude.{◌≡◌, ◌≤◌, ◌+◌, None, map, string_bytes};
 ghost use Rattle.apexd.specs.Answers.{most_bytes};
 ghost use Rattle.apexd.specs.Commands.{is_exec as is_exec_words, usage_line, Answers};
 
@@ -28,7 +28,7 @@ pub fn top<S: Source, K: Sink>(
     kept: &mut Kept,
 ) -> u8
     requires { kept.old.image ≡ None }
-    ensures answers { Answers (is_exec_words (map (λ w. w.bytes.items) words.now)) result (record { left = S.left source.old; later = S.left source.new; read_faults = S.faults source.old; read_faults_later = S.faults source.new; held = K.held sink.old; held_later = K.held sink.new; write_faults = K.faults sink.old; write_faults_later = K.faults sink.new; image = kept.new.image }) }
+    ensures answers { Answers (is_exec_words (map string_bytes words.now)) result (record { left = S.left source.old; later = S.left source.new; read_faults = S.faults source.old; read_faults_later = S.faults source.new; held = K.held sink.old; held_later = K.held sink.new; write_faults = K.faults sink.old; write_faults_later = K.faults sink.new; image = kept.new.image }) }
     ensures read_counted { S.faults source.old ≤ S.faults source.new }
     ensures write_counted { K.faults sink.old ≤ K.faults sink.new }
     ensures asked { S.calls source.new ≤ S.calls source.old + most_bytes + 2 }
@@ -43,7 +43,7 @@ pub fn top<S: Source, K: Sink>(
 }
 
 fn is_exec(words: &[String]) -> bool
-    ensures { result ≡ is_exec_words (map (λ w. w.bytes.items) words.now) }
+    ensures { result ≡ is_exec_words (map string_bytes words.now) }
 {
     words.len() == 1 && words[0].as_str() == "exec"
 }
