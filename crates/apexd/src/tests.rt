@@ -326,6 +326,22 @@ fn too_long(rt: HostRuntime) -> Result<(), Fail> {
     Ok(())
 }
 
+// Each is looked up among the others; a test has a minute.
+#[test]
+fn many_locals(rt: HostRuntime) -> Result<(), Fail> {
+    let mut text = Vec::new(rt.alloc());
+    for n in 0..200_000 {
+        let declared = format!(in rt.alloc(); "Integer v{n} = {n};\n")?;
+        text.extend_from_slice(declared.as_bytes())?;
+    }
+    text.extend_from_slice(b"System.debug(v0 + V199999);")?;
+    let came = run(rt.alloc(), text, 65_536, 64, &[], &[])?;
+    assert_eq!(rt; came.status, 0);
+    assert!(rt; came.text.starts_with(b"queries=0 rows=0 dml=0 saved=0 steps=200001 ops="));
+    assert!(rt; came.text.ends_with(b" ok\n| 199999\n"));
+    Ok(())
+}
+
 #[test]
 fn a_limit_ends_a_block(rt: HostRuntime) -> Result<(), Fail> {
     let mut text = Vec::new(rt.alloc());
