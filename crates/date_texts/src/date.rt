@@ -1,0 +1,131 @@
+// Dates, times of the day, and moments.
+
+ghost use Rattle.std.specs.Prelude.{◌≡◌, ◌≤◌, ◌<◌, ◌*◌, ◌+◌, ◌^◌, ℕ, ℤ, pos, length, MatchBool, MatchOption};
+ghost use Rattle.std.specs.Str.Parse.{AllDigits, digits_value};
+ghost use Rattle.date_texts.specs.Forms.{IsThree, IsCivil, IsDateText, IsClockText, IsMomentText, BeginsDate, BeginsMoment};
+ghost use Rattle.jiff_core.specs.Calendar.{days_from_civil};
+
+use jiff::civil::Date;
+
+// What digits come to, or None where a byte is no digit.
+fn field(text: &[u8]) -> Option<u16>
+    requires { length text.now ≤ 4 }
+    ensures { MatchOption result (AllDigits 10 text.now → ⊥) (λ n. AllDigits 10 text.now × (n ≡ digits_value 10 text.now)) }
+{
+    let mut value: u16 = 0;
+    for byte in text {
+        if !byte.is_ascii_digit() {
+            return None;
+        }
+        value = value * 10 + (*byte - b'0') as u16;
+    }
+    Some(value)
+}
+
+// What three fields come to, the first of n digits and the others of two, with a sign between them.
+fn three(text: &[u8], n: usize, sign: u8) -> Option<(u16, u16, u16)>
+    requires { n ≤ 4 }
+    ensures { MatchOption result ((a b c : ℕ) → IsThree n sign text.now a b c → ⊥) (λ r. IsThree n sign text.now r.0 r.1 r.2) }
+{
+    if text.len() != n + 6 || text[n] != sign || text[n + 3] != sign {
+        return None;
+    }
+    let Some(first) = field(&text[..n]) else {
+        return None;
+    };
+    let Some(second) = field(&text[n + 1..n + 3]) else {
+        return None;
+    };
+    let Some(third) = field(&text[n + 4..n + 6]) else {
+        return None;
+    };
+    Some((first, second, third))
+}
+
+// The day number of a date of the years 1 to 9999.
+fn day_number(year: u16, month: u16, day: u16) -> Option<i32>
+    ensures { MatchOption result (IsCivil year month day → ⊥) (λ n. IsCivil year month day × (n ≡ days_from_civil (pos year) month day)) }
+{
+    if year == 0 || year > 9999 || month > 12 || day > 31 {
+        return None;
+    }
+    match Date::new(year as i16, month as i8, day as i8) {
+        Ok(date) => Some(date.to_plain().to_unix_epoch_day()),
+        Err(_) => None,
+    }
+}
+
+/// The days from 1970-01-01 of a date written `YYYY-MM-DD`. `None` exactly where the text has another form or is no
+/// date of the years 1 to 9999.
+pub fn read_date(text: &[u8]) -> Option<i32>
+    ensures { MatchOption result ((day : ℤ) → IsDateText text.now day → ⊥) (λ day. IsDateText text.now day) }
+{
+    match three(text, 4, b'-') {
+        Some((year, month, day)) => day_number(year, month, day),
+        None => None,
+    }
+}
+
+// The seconds from the beginning of the day, of a time written `hh:mm:ss`.
+fn read_clock(text: &[u8]) -> Option<u32>
+    ensures { MatchOption result ((n : ℕ) → IsClockText text.now n → ⊥) (λ n. IsClockText text.now n × (n < 86400)) }
+{
+    match three(text, 2, b':') {
+        Some((hour, minute, second)) => {
+            if hour < 24 && minute < 60 && second < 60 {
+                Some(hour as u32 * 3600 + minute as u32 * 60 + second as u32)
+            } else {
+                None
+            }
+        }
+        None => None,
+    }
+}
+
+/// The seconds from 1970-01-01T00:00:00Z of a moment written `YYYY-MM-DDThh:mm:ssZ`, in capital `T` and `Z`. `None`
+/// exactly where the text has another form or is no moment of the years 1 to 9999.
+pub fn read_moment(text: &[u8]) -> Option<i64>
+    ensures { MatchOption result ((n : ℤ) → IsMomentText text.now n → ⊥) (λ n. IsMomentText text.now n) }
+{
+    if text.len() != 20 || text[10] != b'T' || text[19] != b'Z' {
+        return None;
+    }
+    let Some(days) = read_date(&text[0..10]) else {
+        return None;
+    };
+    let Some(seconds) = read_clock(&text[11..19]) else {
+        return None;
+    };
+    Some(days as i64 * 86_400 + seconds as i64)
+}
+
+// Whether a text is three fields, the first of n digits and the others of two, with a sign between them.
+fn is_three(text: &[u8], n: usize, sign: u8) -> bool
+    requires { n ≤ 4 }
+    ensures { MatchBool result ((a : ℕ) × (b : ℕ) × (c : ℕ) × IsThree n sign text.now a b c) ((a b c : ℕ) → IsThree n sign text.now a b c → ⊥) }
+{
+    match three(text, n, sign) {
+        Some(_) => true,
+        None => false,
+    }
+}
+
+/// Whether a text begins in the form `YYYY-MM-DD`, digits for the letters, be it a date or not.
+pub fn begins_date(text: &[u8]) -> bool
+    ensures { MatchBool result (BeginsDate text.now) (BeginsDate text.now → ⊥) }
+{
+    if text.len() < 10 {
+        return false;
+    }
+    is_three(&text[0..10], 4, b'-')
+}
+
+/// Whether a text begins in the form `YYYY-MM-DDThh:mm:ssZ`, digits for the small letters, be it a moment or not.
+pub fn begins_moment(text: &[u8]) -> bool
+    ensures { MatchBool result (BeginsMoment text.now) (BeginsMoment text.now → ⊥) }
+{
+    if text.len() < 20 || text[10] != b'T' || text[19] != b'Z' || !begins_date(text) {
+        return false;
+    }
+    is_three(&text[11..19], 2, b':')
+}
