@@ -1,5 +1,5 @@
 -- Half-even rounding from a quotient and its rest, and that there is one rounded number.
-use Rattle.std.proofs.Common.{◌≡◌, ℕ, zero, suc, ◌+◌, ◌-◌, ◌*◌, ◌/◌, ◌%◌, ◌^◌, ◌<◌, ◌≤◌, inl, inr, ⊎_elim, refl, sym, ap, subst, to_z, of_z, Result, ◌∙◌, arith, ℤ, pos, negsuc, ◌+ℤ◌, ◌-ℤ◌, ◌*ℤ◌, ◌<ℤ◌, unsigned_abs}
+use Rattle.std.proofs.Common.{◌≡◌, ℕ, zero, suc, ◌+◌, ◌-◌, ◌*◌, ◌/◌, ◌%◌, ◌^◌, ◌<◌, ◌≤◌, inl, inr, ⊎_elim, refl, sym, ap, subst, to_z, of_z, Result, Ok, Err, IfOk, ◌∙◌, arith, ℤ, pos, negsuc, ◌+ℤ◌, ◌-ℤ◌, ◌*ℤ◌, ◌<ℤ◌, unsigned_abs}
 use Rattle.std.proofs.Math.IntN.{neg_ℤ, neg_ℤ-neg_ℤ, suc_ℤ, pos-*ℤ-pos, negsuc-*ℤ-pos, suc_ℤ-*ℤ, +ℤ-suc_ℤ, +ℤ_one, +ℤ_idr, +ℤ_idl, +ℤ_assoc, zero-*ℤ, *ℤ_comm}
 use Rattle.std.proofs.Math.Nat.{mod-add-div, mod-lt, mul_comm}
 use Rattle.std.specs.Int.{int_div_euclid, int_rem_euclid, w128}
@@ -143,6 +143,25 @@ one_half_even n d p q h (inl a) (inr b) = let far = apart n d p q in let bb = b.
 one_half_even n d p q h (inr a) (inl b) = let far = apart n d p q in let aa = a.0 in same p q (times_below (unsigned_abs (p -ℤ q)) (unsigned_abs d) (omega arith))
 one_half_even n d p q h (inr a) (inr b) = let far = apart n d p q in let aa = a.0 in let bb = b.0 in both_even p q (times_at_most (unsigned_abs (p -ℤ q)) (unsigned_abs d) h (omega arith)) a.1 b.1
 
+far_apart : (t e x y : ℕ) → 0 < t → t * e ≤ x + y → 2 * x ≤ e → x ≤ y
+far_apart zero e x y h far half = absurd (omega arith)
+far_apart (suc t) e x y h far half = let m : suc t * e ≡ t * e + e = omega arith in omega arith
+
+at_most_half : (n d q : ℤ) → IsHalfEven n d q → 2 * distance n d q ≤ unsigned_abs d
+at_most_half n d q (inl h) = omega arith
+at_most_half n d q (inr h) = let e = h.0 in omega arith
+
+-- no whole number is nearer
+pub nearest : (n d q m : ℤ) → IsHalfEven n d q → distance n d q ≤ distance n d m
+nearest n d q m s =
+    let half = at_most_half n d q s in
+    let far = apart n d q m in
+    by (unsigned_abs (q -ℤ m)) refl far half
+  where
+    by : (t : ℕ) → unsigned_abs (q -ℤ m) ≡ t → unsigned_abs (q -ℤ m) * unsigned_abs d ≤ distance n d q + distance n d m → 2 * distance n d q ≤ unsigned_abs d → distance n d q ≤ distance n d m
+    by zero e far half = subst (λ z. distance n d q ≤ distance n d z) (same q m e) (omega arith)
+    by (suc t) e far half = far_apart (suc t) (unsigned_abs d) (distance n d q) (distance n d m) (omega arith) (subst (λ k. k * unsigned_abs d ≤ distance n d q + distance n d m) e far) half
+
 -- with both signs turned
 pub turned : (n d q : ℤ) → IsHalfEven (neg_ℤ n) (neg_ℤ d) q → IsHalfEven n d q
 turned n d q s =
@@ -174,3 +193,7 @@ pub minus : (z : ℤ) → unsigned_abs z < 2 ^ 127 → to_z w128 (of_z w128 (pos
 minus z h =
     let size : unsigned_abs (pos 0 -ℤ z) ≡ unsigned_abs z = omega (arith, ints) in
     whole (pos 0 -ℤ z) (omega arith) ∙ +ℤ_idl (neg_ℤ z)
+
+pub rounds_nearest : (n d : ℤ) (r : Result ℤ NumFault) → Rounds n d r → IfOk r (λ q. (m : ℤ) → distance n d q ≤ distance n d m)
+rounds_nearest n d (Ok q) s = λ m. subst (λ z. distance n d z ≤ distance n d m) (sym s.2.0) (nearest n d s.0 m s.1)
+rounds_nearest n d (Err f) s = tt

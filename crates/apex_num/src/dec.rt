@@ -1,8 +1,8 @@
 // Decimals and their arithmetic.
 
-ghost use Rattle.std.specs.Prelude.{◌≡◌, ◌≢◌, ◌↔◌, ◌^◌, ◌<◌, ◌≤◌, ℤ, pos, ◌+ℤ◌, ◌-ℤ◌, ◌*ℤ◌, ◌<ℤ◌, ◌≤ℤ◌, unsigned_abs, MatchBool, MatchOption};
+ghost use Rattle.std.specs.Prelude.{◌≡◌, ◌≢◌, ◌↔◌, ◌^◌, ◌<◌, ◌≤◌, ℤ, pos, ◌+ℤ◌, ◌-ℤ◌, ◌*ℤ◌, ◌<ℤ◌, ◌≤ℤ◌, unsigned_abs, IfOk, MatchBool, MatchOption};
 ghost use Rattle.apex_num.specs.Rounding.{Rises, Stays};
-ghost use Rattle.apex_num.specs.Decimals.{IsDecimal, IsHalfEven, Answers, Rounds};
+ghost use Rattle.apex_num.specs.Decimals.{IsDecimal, IsHalfEven, Answers, Rounds, distance};
 ghost use Rattle.apex_num.specs.declared.dec.NumFault.TheVariants.{DivideByZero};
 
 use std::cmp::Ordering;
@@ -135,6 +135,7 @@ pub fn dec_sub(a: Dec, b: Dec) -> Result<Dec, NumFault>
 pub fn dec_mul(a: Dec, b: Dec) -> Result<Dec, NumFault>
     ensures rounded { Rounds (a *ℤ b) (pos 1000000) result }
     ensures only { (q : ℤ) → IsHalfEven (a *ℤ b) (pos 1000000) q → Answers q result }
+    ensures nearest { IfOk result (λ q. (m : ℤ) → distance (a *ℤ b) (pos 1000000) q ≤ distance (a *ℤ b) (pos 1000000) m) }
 {
     rounded(a.millionths() * b.millionths(), MILLION)
 }
@@ -159,6 +160,7 @@ pub fn dec_div(a: Dec, b: Dec) -> Result<Dec, NumFault>
     ensures zero { (b ≡ pos 0) ↔ (result ≡ Err DivideByZero) }
     ensures rounded { b ≢ pos 0 → Rounds (a *ℤ pos 1000000) b result }
     ensures only { (q : ℤ) → b ≢ pos 0 → IsHalfEven (a *ℤ pos 1000000) b q → Answers q result }
+    ensures nearest { IfOk result (λ q. (m : ℤ) → distance (a *ℤ pos 1000000) b q ≤ distance (a *ℤ pos 1000000) b m) }
 {
     let d = b.millionths();
     if d == 0 {

@@ -1,5 +1,5 @@
-use Rattle.std.proofs.Common.{◌*ℤ◌, arith}
-use Rattle.apex_num.proofs.HalfEven.{whole, product_size}
+use Rattle.std.proofs.Common.{pos, ◌*ℤ◌, arith}
+use Rattle.apex_num.proofs.HalfEven.{rounds_nearest, whole, product_size}
 use Rattle.apex_num.proofs.dec.dec_mul.Goals as goal
 
 pub rounded-requires-clause-size : goal.rounded-requires-clause-size
@@ -22,3 +22,6 @@ returns-clause-only c =
     let rb = c.millionths-2.ensures.range in
     let small = product_size c.args.a c.args.b ra rb in
     rw (c.millionths.ensures.value, c.millionths-2.ensures.value, whole c.args.a (omega arith), whole c.args.b (omega arith), whole (c.args.a *ℤ c.args.b) (omega arith)) at c.rounded.ensures.only
+
+pub returns-clause-nearest : goal.returns-clause-nearest
+returns-clause-nearest c = rounds_nearest (c.args.a *ℤ c.args.b) (pos 1000000) c.rounded.result (returns-clause-rounded c)
