@@ -337,7 +337,10 @@ fn many_locals(rt: HostRuntime) -> Result<(), Fail> {
     text.extend_from_slice(b"System.debug(v0 + V199999);")?;
     let came = run(rt.alloc(), text, 65_536, 64, &[], &[])?;
     assert_eq!(rt; came.status, 0);
-    assert!(rt; came.text.starts_with(b"queries=0 rows=0 dml=0 saved=0 steps=200001 ops="));
+    assert!(rt;
+        came.text
+            .starts_with(b"queries=0 rows=0 dml=0 saved=0 steps=200001 ops=")
+    );
     assert!(rt; came.text.ends_with(b" ok\n| 199999\n"));
     Ok(())
 }
