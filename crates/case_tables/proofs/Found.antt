@@ -84,3 +84,20 @@ module _ {R : Type 0} (key : R → List ℕ) (rows : List R) (k : List ℕ) wher
       (λ h. let g : Less ≡ Equal = sym (p.small i d (omega (arith, h.1))) ∙ t in cc)
       (λ h. let g : Greater ≡ Equal = sym (p.large i d (omega (arith, h.1)) lt) ∙ t in cc)
       (leb_tells (suc i) low)
+
+  -- no two rows have one key
+  pub only_one : Rises key rows → (a b : R) → HasKey key rows k a → HasKey key rows k b → a ≡ b
+  only_one up a b h g =
+      let i = h.1.0 in
+      let j = g.1.0 in
+      let same_key : (m n : ℕ) → m < n → n < length rows → key (slice_index_or rows m a) ≡ k → key (slice_index_or rows n a) ≡ k → ⊥ =
+          λ m n lt within e f. let t : Less ≡ Equal = sym (below up m n a lt within) ∙ ties (at m a) (at n a) (e ∙ sym f) in cc in
+      let ki : key (slice_index_or rows i a) ≡ k = ap key (h.1.2 a) ∙ h.0 in
+      let kj : key (slice_index_or rows j a) ≡ k = ap key (g.1.2 a) ∙ g.0 in
+      ⊎_elim
+      (λ t. absurd (same_key i j (omega (arith, t.1)) g.1.1 ki kj))
+      (λ t. ⊎_elim
+      (λ u. absurd (same_key j i (omega (arith, u.1)) h.1.1 kj ki))
+      (λ u. sym (h.1.2 a) ∙ ap (λ n. slice_index_or rows n a) (omega (arith, t.1, u.1)) ∙ g.1.2 a)
+      (leb_tells (suc j) i))
+      (leb_tells (suc i) j)

@@ -63,6 +63,7 @@ impl<'a, R: Keyed, const N: usize> Cases<'a, R, N> {
     /// the table.
     pub fn find(&self, key: &[u8]) -> Option<&'a R>
         ensures found { IfSome result (λ row. HasKey R.key self.now.rows.now key.now row.now) }
+        ensures only { IfSome result (λ row. (other : R) → HasKey R.key self.now.rows.now key.now other → other ≡ row.now) }
         ensures none { IfNone result (LacksKey R.key self.now.rows.now key.now) }
     {
         let table = self.rows;
@@ -74,6 +75,7 @@ impl<'a, R: Keyed, const N: usize> Cases<'a, R, N> {
 fn find_in<'a, R: Keyed>(table: &'a [R], key: &[u8]) -> Option<&'a R>
     requires { Rises R.key table.now }
     ensures found { IfSome result (λ row. HasKey R.key table.now key.now row.now) }
+    ensures only { IfSome result (λ row. (other : R) → HasKey R.key table.now key.now other → other ≡ row.now) }
     ensures none { IfNone result (LacksKey R.key table.now key.now) }
 {
     let mut low = 0;

@@ -1,5 +1,5 @@
 -- Dates, times and moments from their fields.
-use Rattle.std.proofs.Common.{arith, ◌≡◌, ◌+◌, ◌<◌, ◌≤◌, ℕ, ℤ, pos, ◌+ℤ◌, ◌*ℤ◌, Bool, true, false, MatchBool, Option, None, Some, MatchOption, List, [], ◌∷◌, ◌++◌, length, take, drop, get_or, sym, ap, subst, ◌∙◌, length-append, drop-drop}
+use Rattle.std.proofs.Common.{arith, ◌≡◌, ◌+◌, ◌*◌, ◌<◌, ◌≤◌, ℕ, ℤ, pos, ◌+ℤ◌, ◌*ℤ◌, Bool, true, false, MatchBool, Option, None, Some, MatchOption, IfSome, List, [], ◌∷◌, ◌++◌, length, take, drop, get_or, sym, ap, subst, ◌∙◌, length-append, drop-drop}
 use Rattle.std.proofs.lemmas.List.{take-append-drop}
 use Rattle.std.proofs.Math.Seq.{drop-cons, take-append_seam, drop-append-add, drop-length}
 use Rattle.jiff_core.specs.Calendar.{days_from_civil}
@@ -115,3 +115,27 @@ moment_begins text true long first last d t =
     let same : take 10 text ≡ d.0 = ap (take 10) d.2 ∙ ap (λ k. take k (d.0 ++ d.1)) (sym ten) ∙ take-append_seam d.0 d.1 in
     (take 10 text, take 8 (drop 11 text), drop 20 text, joined_more text long first last, (d.3, d.4, d.5, subst (λ z. IsThree 4 45 z d.3 d.4 d.5) (sym same) d.6), t)
 moment_begins text false long first last d none = λ m. let f = moment_form text m in let c = f.clock in none c.0 c.1 c.2 c.3
+
+-- ---- one value each
+
+pub one_date : (text : List ℕ) (m n : ℤ) → IsDateText text m → IsDateText text n → m ≡ n
+one_date text m n d e =
+    let same = one_reading 4 45 text d.0 d.1 d.2 e.0 e.1 e.2 d.3 e.3 in
+    d.5 ∙ ap (λ (x : ℕ × ℕ × ℕ). days_from_civil (pos x.0) x.1 x.2) (λ i. (same.0 i, same.1 i, same.2 i)) ∙ sym e.5
+
+one_clock : (text : List ℕ) (m n : ℕ) → IsClockText text m → IsClockText text n → m ≡ n
+one_clock text m n d e =
+    let same = one_reading 2 58 text d.0 d.1 d.2 e.0 e.1 e.2 d.3 e.3 in
+    d.7 ∙ ap (λ (x : ℕ × ℕ × ℕ). x.0 * 3600 + x.1 * 60 + x.2) (λ i. (same.0 i, same.1 i, same.2 i)) ∙ sym e.7
+
+pub one_moment : (text : List ℕ) (m n : ℤ) → IsMomentText text m → IsMomentText text n → m ≡ n
+one_moment text m n d e =
+    let h = halves text m d in
+    let k = halves text n e in
+    let days = one_date d.date d.days e.days d.is_date (subst (λ t. IsDateText t e.days) (sym k.date ∙ h.date) e.is_date) in
+    let seconds = one_clock d.clock d.seconds e.seconds d.is_clock (subst (λ t. IsClockText t e.seconds) (sym k.clock ∙ h.clock) e.is_clock) in
+    d.value ∙ ap (λ z. z *ℤ pos 86400 +ℤ pos d.seconds) days ∙ ap (λ z. e.days *ℤ pos 86400 +ℤ pos z) seconds ∙ sym e.value
+
+pub date_only : (text : List ℕ) (o : Option ℤ) → MatchOption o ((day : ℤ) → IsDateText text day → ⊥) (λ day. IsDateText text day) → IfSome o (λ day. (other : ℤ) → IsDateText text other → other ≡ day)
+date_only text None h = tt
+date_only text (Some n) h = λ other d. one_date text other n d h

@@ -1,6 +1,6 @@
 // Dates, times of the day, and moments.
 
-ghost use Rattle.std.specs.Prelude.{◌≡◌, ◌≤◌, ◌<◌, ◌*◌, ◌+◌, ◌^◌, ℕ, ℤ, pos, length, MatchBool, MatchOption};
+ghost use Rattle.std.specs.Prelude.{◌≡◌, ◌≤◌, ◌<◌, ◌*◌, ◌+◌, ◌^◌, ℕ, ℤ, pos, length, MatchBool, MatchOption, IfSome};
 ghost use Rattle.std.specs.Str.Parse.{AllDigits, digits_value};
 ghost use Rattle.date_texts.specs.Forms.{IsThree, IsCivil, IsDateText, IsClockText, IsMomentText, BeginsDate, BeginsMoment};
 ghost use Rattle.jiff_core.specs.Calendar.{days_from_civil};
@@ -58,7 +58,8 @@ fn day_number(year: u16, month: u16, day: u16) -> Option<i32>
 /// The days from 1970-01-01 of a date written `YYYY-MM-DD`. `None` exactly where the text has another form or is no
 /// date of the years 1 to 9999.
 pub fn read_date(text: &[u8]) -> Option<i32>
-    ensures { MatchOption result ((day : ℤ) → IsDateText text.now day → ⊥) (λ day. IsDateText text.now day) }
+    ensures reads { MatchOption result ((day : ℤ) → IsDateText text.now day → ⊥) (λ day. IsDateText text.now day) }
+    ensures only { IfSome result (λ day. (other : ℤ) → IsDateText text.now other → other ≡ day) }
 {
     match three(text, 4, b'-') {
         Some((year, month, day)) => day_number(year, month, day),
@@ -85,7 +86,8 @@ fn read_clock(text: &[u8]) -> Option<u32>
 /// The seconds from 1970-01-01T00:00:00Z of a moment written `YYYY-MM-DDThh:mm:ssZ`, in capital `T` and `Z`. `None`
 /// exactly where the text has another form or is no moment of the years 1 to 9999.
 pub fn read_moment(text: &[u8]) -> Option<i64>
-    ensures { MatchOption result ((n : ℤ) → IsMomentText text.now n → ⊥) (λ n. IsMomentText text.now n) }
+    ensures reads { MatchOption result ((n : ℤ) → IsMomentText text.now n → ⊥) (λ n. IsMomentText text.now n) }
+    ensures only { IfSome result (λ n. (other : ℤ) → IsMomentText text.now other → other ≡ n) }
 {
     if text.len() != 20 || text[10] != b'T' || text[19] != b'Z' {
         return None;

@@ -1,12 +1,9 @@
 pub mod Bools
 pub mod Chains
-pub mod Digits
 pub mod Exprs
-pub mod Gaps
 pub mod Keywords
 pub mod Resolves
-pub mod Signs
 pub mod Slots
 pub mod Stmts
-pub mod Pieces
 pub mod Whole
+pub mod Narrow

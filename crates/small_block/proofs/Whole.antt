@@ -1,7 +1,6 @@
 -- A text is one small block at most.
 use Rattle.std.proofs.Common.{◌≡◌, ℕ, ◌<◌, true, false, List, length, Option, Some, None, Result, Ok, Err, sym, ap, ◌∙◌, subst}
 use Rattle.std.specs.Prelude.{IfOk, IfSome, IfNone}
-use Rattle.std.specs.Str.{IsUtf8}
 use Rattle.apex_syntax.specs.declared.tree.Stmt.{Stmt}
 use Rattle.apex_syntax.specs.declared.typed.Block.{Block}
 use Rattle.small_block.specs.declared.token.Token.{Token}
@@ -40,9 +39,9 @@ module _ (text : List ℕ) where
       none_block (Some x) e = tt
       none_block None e = λ other s. let f : None ≡ Some other = e ∙ typed other s in cc
 
-pub found_block : (text : List ℕ) (ts : List Token) (tree : List Stmt) → IsUtf8 text → HasTokens text ts → HasNoCast ts → IsTree ts tree → (a : Option Block) → a ≡ block_typed tree → IfSome a (IsSmallBlock text)
-found_block text ts tree u l n p None e = tt
-found_block text ts tree u l n p (Some b) e = record { utf8 = u; tokens = ts; lexed = l; no_cast = n; tree = tree; parsed = p; typed = sym e }
+pub found_block : (text : List ℕ) (ts : List Token) (tree : List Stmt) → HasTokens text ts → HasNoCast ts → IsTree ts tree → (a : Option Block) → a ≡ block_typed tree → IfSome a (IsSmallBlock text)
+found_block text ts tree l n p None e = tt
+found_block text ts tree l n p (Some b) e = record { tokens = ts; lexed = l; no_cast = n; tree = tree; parsed = p; typed = sym e }
 
 pub when_ok : {A E : Type 0} (P Q : A → Type 0) (r : Result A E) → ((a : A) → P a → Q a) → IfOk r P → IfOk r Q
 when_ok P Q (Ok a) f p = f a p

@@ -1,5 +1,4 @@
 pub mod Tokens
-pub mod Lexing
 pub mod Grammar
 pub mod Reading
 pub mod Typing

@@ -1,6 +1,5 @@
 -- Which texts are small blocks.
 use Rattle.std.specs.Prelude.{◌≡◌, ℕ, List, Some}
-use Rattle.std.specs.Str.{IsUtf8}
 use Rattle.apex_syntax.specs.declared.tree.Stmt.{Stmt}
 use Rattle.apex_syntax.specs.declared.typed.Block.{Block}
 use Rattle.small_block.specs.declared.token.Token.{Token}
@@ -9,9 +8,8 @@ use Rattle.small_block.specs.Casts.{HasNoCast}
 use Rattle.small_block.specs.Grammar.{IsTree}
 use Rattle.small_block.specs.Typing.{block_typed}
 
--- the text is UTF-8, has tokens without a cast that are a tree, and the tree is this well-typed block
+-- the text has tokens without a cast that are a tree, and the tree is this well-typed block
 pub record IsSmallBlock (text : List ℕ) (block : Block) : Type 0 where
-  pub utf8 : IsUtf8 text
   pub tokens : List Token
   pub lexed : HasTokens text tokens
   pub no_cast : HasNoCast tokens

@@ -1,10 +1,9 @@
 //! The front end of small blocks: from bytes to a typed block.
 //!
-//! It gives way to the lexer, the parsers and the checker of the whole language.
+//! It gives way to the parsers and the checker of the whole language.
 #![tactic(auto)]
 
-ghost use Rattle.std.specs.Prelude.{◌≡◌, IfOk, IfSome, IfNone, IsTrue, IsFalse};
-ghost use Rattle.std.specs.Str.{IsUtf8};
+ghost use Rattle.std.specs.Prelude.{◌≡◌, IfOk, IfSome, IfNone};
 ghost use Rattle.apex_syntax.specs.declared.typed.Block.{Block as TheBlock};
 ghost use Rattle.stack_compiler.specs.Code.{HasSlots};
 ghost use Rattle.small_block.specs.SmallBlocks.{IsSmallBlock};
@@ -20,8 +19,8 @@ use apex_syntax::typed::Block;
 use std::alloc::{AllocError, Global};
 pub use token::Token;
 
-/// The typed block that a text is, or `None` exactly where the text is no small block: it isn't
-/// UTF-8, has a token that no small block has, has a cast, isn't such a tree, nests deeper than 64, or isn't
+/// The typed block that a text is, or `None` exactly where the text is no small block: it
+/// has no tokens, has one that no small block has, has a cast, isn't such a tree, nests deeper than 64, or isn't
 /// well typed. A small block is made of `Integer` declarations with initializers and of
 /// `System.debug` calls over whole-number expressions.
 pub fn read_block(alloc: Global, text: &[u8]) -> Result<Option<Block>, AllocError>
@@ -30,9 +29,6 @@ pub fn read_block(alloc: Global, text: &[u8]) -> Result<Option<Block>, AllocErro
     ensures only { IfOk result (λ answer. IfSome answer (λ block. (other : TheBlock) → IsSmallBlock text.now other → other ≡ block)) }
     ensures none { IfOk result (λ answer. IfNone answer ((other : TheBlock) → IsSmallBlock text.now other → ⊥)) }
 {
-    if !is_utf8(text) {
-        return Ok(None);
-    }
     let Some(tokens) = lex::lex(alloc, text)? else {
         return Ok(None);
     };
@@ -43,11 +39,4 @@ pub fn read_block(alloc: Global, text: &[u8]) -> Result<Option<Block>, AllocErro
         return Ok(None);
     };
     resolve::resolve(alloc, tree.as_slice())
-}
-
-fn is_utf8(bytes: &[u8]) -> bool
-    ensures some { IsTrue result → IsUtf8 bytes.now }
-    ensures none { IsFalse result → IsUtf8 bytes.now → ⊥ }
-{
-    str::from_utf8(bytes).is_ok()
 }

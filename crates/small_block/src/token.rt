@@ -20,46 +20,6 @@ pub enum Token {
     Slash,
 }
 
-/// The words that are no names, wherever they stand.
-pub const RESERVED: [&str; 36] = [
-    "abstract",
-    "break",
-    "catch",
-    "class",
-    "continue",
-    "delete",
-    "do",
-    "else",
-    "extends",
-    "false",
-    "final",
-    "finally",
-    "for",
-    "global",
-    "if",
-    "implements",
-    "insert",
-    "interface",
-    "new",
-    "null",
-    "override",
-    "private",
-    "protected",
-    "public",
-    "return",
-    "static",
-    "super",
-    "this",
-    "throw",
-    "true",
-    "try",
-    "update",
-    "upsert",
-    "virtual",
-    "void",
-    "while",
-];
-
 /// The primitive types. One of them in parentheses begins a cast.
 pub const PRIMITIVES: [&str; 8] = [
     "boolean", "date", "datetime", "decimal", "id", "integer", "long", "string",

@@ -6,17 +6,6 @@ ghost use Rattle.small_block.specs.Words.{keys, rises};
 
 use case_tables::Cases;
 
-/// The table of the reserved words.
-pub fn reserved_table<'a>(words: &'a [&'static str; 36]) -> Cases<'a, &'static str, 36>
-    requires { rises (keys words.now) ≡ true }
-    ensures { result.rows.now ≡ words.now }
-{
-    match Cases::new(words) {
-        Some(table) => table,
-        None => unreachable!(),
-    }
-}
-
 /// The table of the primitive types.
 pub fn primitive_table<'a>(words: &'a [&'static str; 8]) -> Cases<'a, &'static str, 8>
     requires { rises (keys words.now) ≡ true }

@@ -43,7 +43,7 @@ returns-then-has_cast-clause-none c =
 pub returns-clause-found : goal.returns-clause-found
 returns-clause-found c =
     when_ok _ _ c.resolve.result
-    (found_block c.args.text.now c.in-Some.tokens.items c.in-Some-2.tree (c.if-not-is_utf8.ensures.some refl)
+    (found_block c.args.text.now c.in-Some.tokens.items c.in-Some-2.tree
     (rw c.in-Some.is at c.in_ok-tokens.ensures.found)
     (subst HasNoCast c.deref.ensures.value (c.if-has_cast.ensures.none refl))
     (subst (λ t. IsTree t c.in-Some-2.tree) c.deref-2.ensures.value (rw c.in-Some-2.is at c.in_ok-tree.ensures.found)))

@@ -1,0 +1,10 @@
+pub mod Unclosed
+pub mod Rows
+pub mod Runs
+pub mod Firsts
+pub mod Numbers
+pub mod Digits
+pub mod Literals
+pub mod Bools
+pub mod Dates
+pub mod Readings
