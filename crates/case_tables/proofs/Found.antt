@@ -91,7 +91,7 @@ module _ {R : Type 0} (key : R → List ℕ) (rows : List R) (k : List ℕ) wher
       let i = h.1.0 in
       let j = g.1.0 in
       let same_key : (m n : ℕ) → m < n → n < length rows → key (slice_index_or rows m a) ≡ k → key (slice_index_or rows n a) ≡ k → ⊥ =
-          λ m n lt within e f. let t : Less ≡ Equal = sym (below up m n a lt within) ∙ ties (at m a) (at n a) (e ∙ sym f) in cc in
+      λ m n lt within e f. let t : Less ≡ Equal = sym (below up m n a lt within) ∙ ties (at m a) (at n a) (e ∙ sym f) in cc in
       let ki : key (slice_index_or rows i a) ≡ k = ap key (h.1.2 a) ∙ h.0 in
       let kj : key (slice_index_or rows j a) ≡ k = ap key (g.1.2 a) ∙ g.0 in
       ⊎_elim
