@@ -31,6 +31,11 @@ impl<T: Drop> Boxed<T> {
 }
 
 impl<T> Boxed<T> {
+    /// Where the value has its memory.
+    pub fn allocator(&self) -> Global {
+        *Box::allocator(&self.held)
+    }
+
     /// The value, borrowed.
     pub fn get(&self) -> &T
         ensures { result.now ≡ self.now }

@@ -48,6 +48,11 @@ impl<T> Items<T> {
         inner
     }
 
+    /// Where the list takes its memory.
+    pub fn allocator(&self) -> Global {
+        *self.inner.allocator()
+    }
+
     /// The elements as a slice.
     pub fn as_slice(&self) -> &[T]
         ensures { result.now ≡ self.now }

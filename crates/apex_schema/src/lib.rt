@@ -1,0 +1,24 @@
+//! What a tenant's data are: its schema, its rows, queries over them, requests and replies.
+//!
+//! The definitions of this crate's `specs/` say what a store answers, which rows a query means, who may see a row,
+//! and when a validation rule holds.
+#![tactic(auto)]
+
+mod lists;
+mod query;
+mod reply;
+mod request;
+mod row;
+mod rule;
+mod schema;
+
+pub use query::{
+    Answer, Bind, Cond, CondOp, Path, Query, Question, SortKey, SubQuery, Term, Terms,
+};
+pub use reply::{Counts, Event, EventKind, Fault, FaultWord, Outcome, Reply};
+pub use request::{Context, Op, Request, SaveError, SaveResult, SaveRow, Ticket, Work};
+pub use row::{Child, Found, Row, Writes};
+pub use rule::{Rule, RuleOp, RuleTerm};
+pub use schema::{
+    Access, Field, FieldKind, Link, Mode, Object, Role, Rollup, RollupBy, RuleHead, Schema, User,
+};

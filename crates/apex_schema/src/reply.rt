@@ -1,0 +1,224 @@
+// Replies, events and faults.
+
+ghost use Rattle.std.specs.Prelude.{◌≡◌, IfOk};
+
+use crate::lists::copy_texts;
+use apex_list::Items;
+use apex_num::{Id, LimitKind, NoMemory, Text};
+use thiserror::Error;
+
+/// What is wrong with a text, a schema, a seed or a request.
+#[derive(Clone, Copy, Debug, PartialEq, Eq, Hash, Drop, Error)]
+pub enum FaultWord {
+    #[error("NotUtf8")]
+    NotUtf8,
+    #[error("BadChar")]
+    BadChar,
+    #[error("OpenText")]
+    OpenText,
+    #[error("OpenComment")]
+    OpenComment,
+    #[error("WideLiteral")]
+    WideLiteral,
+    #[error("Expected")]
+    Expected,
+    #[error("TooDeep")]
+    TooDeep,
+    #[error("MixedAndOr")]
+    MixedAndOr,
+    #[error("LockedOrder")]
+    LockedOrder,
+    #[error("TooManyLevels")]
+    TooManyLevels,
+    #[error("UnknownType")]
+    UnknownType,
+    #[error("DoubleRefused")]
+    DoubleRefused,
+    #[error("UnknownName")]
+    UnknownName,
+    #[error("NotVisible")]
+    NotVisible,
+    #[error("Duplicate")]
+    Duplicate,
+    #[error("WrongType")]
+    WrongType,
+    #[error("WrongArguments")]
+    WrongArguments,
+    #[error("NotWritable")]
+    NotWritable,
+    #[error("BadParent")]
+    BadParent,
+    #[error("MissingMethod")]
+    MissingMethod,
+    #[error("NoReturn")]
+    NoReturn,
+    #[error("MisplacedJump")]
+    MisplacedJump,
+    #[error("BadQuery")]
+    BadQuery,
+    #[error("BadTrigger")]
+    BadTrigger,
+    #[error("BadName")]
+    BadName,
+    #[error("BadPrefix")]
+    BadPrefix,
+    #[error("UnknownRole")]
+    UnknownRole,
+    #[error("RoleLoop")]
+    RoleLoop,
+    #[error("UnknownObject")]
+    UnknownObject,
+    #[error("TooManyMasters")]
+    TooManyMasters,
+    #[error("MasterLoop")]
+    MasterLoop,
+    #[error("BadLength")]
+    BadLength,
+    #[error("BadRollup")]
+    BadRollup,
+    #[error("BadRule")]
+    BadRule,
+    #[error("UnknownField")]
+    UnknownField,
+    #[error("BadCell")]
+    BadCell,
+    #[error("BadId")]
+    BadId,
+    #[error("Missing")]
+    Missing,
+    #[error("UnknownRow")]
+    UnknownRow,
+    #[error("NotYet")]
+    NotYet,
+}
+
+/// A fault, and the place where it stands, as it is printed.
+#[derive(Debug, Drop)]
+pub struct Fault {
+    pub place: Text,
+    pub word: FaultWord,
+}
+
+/// What a transaction was charged.
+#[derive(Clone, Copy, Debug, PartialEq, Eq, Hash, Drop)]
+pub struct Counts {
+    pub queries: u32,
+    pub rows: u32,
+    pub dml: u32,
+    pub saved: u32,
+    pub steps: u32,
+}
+
+/// How a request ended.
+#[derive(Debug, Drop)]
+pub enum Outcome {
+    Ok,
+    /// An exception that nothing caught: its class and its message.
+    Thrown(Text, Text),
+    /// A limit, and its number plus one.
+    Limit(LimitKind, u32),
+    /// Its block or its rows are refused.
+    Refused(Fault),
+}
+
+/// The reply to a request.
+#[derive(Debug, Drop)]
+pub struct Reply {
+    pub outcome: Outcome,
+    pub debug: Items<Text>,
+    pub counts: Counts,
+    /// The machine's steps in the attempt that ended.
+    pub ops: u64,
+}
+
+/// What happened to a request.
+#[derive(Debug, Drop)]
+pub enum EventKind {
+    /// The session's request of this number is open.
+    Start(u32),
+    /// The rows that the request asked for are its own.
+    Grab,
+    /// A row is held by another session, and the request is closed.
+    Refuse { row: Id, holder: u32 },
+    /// An answer has changed, and the request begins again.
+    Restart,
+    /// The request is closed with its reply.
+    End(Reply),
+}
+
+/// An event of a tenant's trail.
+#[derive(Debug, Drop)]
+pub struct Event {
+    pub session: u32,
+    pub kind: EventKind,
+}
+
+impl Fault {
+    /// An equal fault.
+    pub fn copy(&self) -> Result<Fault, NoMemory>
+        ensures { IfOk result (λ c. c ≡ self.now) }
+    {
+        Ok(Fault {
+            place: self.place.copy()?,
+            word: self.word,
+        })
+    }
+}
+
+impl Outcome {
+    /// An equal outcome.
+    pub fn copy(&self) -> Result<Outcome, NoMemory>
+        ensures { IfOk result (λ c. c ≡ self.now) }
+    {
+        Ok(match self {
+            Outcome::Ok => Outcome::Ok,
+            Outcome::Thrown(class, message) => Outcome::Thrown(class.copy()?, message.copy()?),
+            Outcome::Limit(kind, number) => Outcome::Limit(*kind, *number),
+            Outcome::Refused(fault) => Outcome::Refused(fault.copy()?),
+        })
+    }
+}
+
+impl Reply {
+    /// An equal reply.
+    pub fn copy(&self) -> Result<Reply, NoMemory>
+        ensures { IfOk result (λ c. c ≡ self.now) }
+    {
+        Ok(Reply {
+            outcome: self.outcome.copy()?,
+            debug: copy_texts(&self.debug)?,
+            counts: self.counts,
+            ops: self.ops,
+        })
+    }
+}
+
+impl EventKind {
+    /// An equal kind of event.
+    pub fn copy(&self) -> Result<EventKind, NoMemory>
+        ensures { IfOk result (λ c. c ≡ self.now) }
+    {
+        Ok(match self {
+            EventKind::Start(n) => EventKind::Start(*n),
+            EventKind::Grab => EventKind::Grab,
+            EventKind::Refuse { row, holder } => EventKind::Refuse {
+                row: *row,
+                holder: *holder,
+            },
+            EventKind::Restart => EventKind::Restart,
+            EventKind::End(reply) => EventKind::End(reply.copy()?),
+        })
+    }
+}
+
+impl Event {
+    /// An equal event.
+    pub fn copy(&self) -> Result<Event, NoMemory>
+        ensures { IfOk result (λ c. c ≡ self.now) }
+    {
+        Ok(Event {
+            session: self.session,
+            kind: self.kind.copy()?,
+        })
+    }
+}
