@@ -1,0 +1,9 @@
+pub mod Cells
+pub mod Conds
+pub mod Stores
+pub mod Overlays
+pub mod Users
+pub mod Accesses
+pub mod Rollups
+pub mod Rules
+pub mod Queries
