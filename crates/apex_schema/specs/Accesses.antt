@@ -1,5 +1,5 @@
 -- Who may see and change a row (docs/platform.md, "Sharing").
-use Rattle.std.specs.Prelude.{ℕ, zero, suc, ◌&&◌, ◌||◌, eqb, Bool, true, false, cond, List, [], ◌∷◌, length, slice_get, bytes_eq, codes, Option, None, Some}
+use Rattle.std.specs.Prelude.{ℕ, zero, suc, ◌&&◌, ◌||◌, eqb, Bool, false, cond, List, [], ◌∷◌, length, slice_get, bytes_eq, codes, Option, None, Some}
 use Rattle.apex_num.specs.declared.cell.Cell.{Cell}
 use Rattle.apex_num.specs.declared.cell.Cell.TheVariants.{Text, Id}
 use Rattle.apex_schema.specs.declared.schema.Access.{Access}

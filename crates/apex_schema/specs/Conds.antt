@@ -1,5 +1,5 @@
 -- Conditions on rows (docs/platform.md, "Conditions").
-use Rattle.std.specs.Prelude.{ℕ, not, ◌&&◌, Bool, true, false, cond, List, [], ◌∷◌, map, slice_get, Option, None, Some}
+use Rattle.std.specs.Prelude.{ℕ, not, Bool, true, false, cond, List, [], ◌∷◌, map, filter, slice_get, Option, None, Some}
 use Rattle.std.specs.List.{list_all, list_any}
 use Rattle.apex_num.specs.declared.cell.Cell.{Cell}
 use Rattle.apex_num.specs.declared.cell.Cell.TheVariants.{Null}
@@ -13,6 +13,7 @@ use Rattle.apex_schema.specs.declared.query.Terms.TheVariants.{Given as GivenAll
 use Rattle.apex_schema.specs.declared.query.Cond.{Cond}
 use Rattle.apex_schema.specs.declared.query.Cond.TheOpen.{Cond-F}
 use Rattle.apex_schema.specs.declared.query.Cond.TheFolds.{fold-Cond}
+use Rattle.apex_schema.specs.declared.query.Cond.TheViews.{out-Cond}
 use Rattle.apex_schema.specs.declared.row.Row.{Row}
 use Rattle.apex_schema.specs.Cells.{same_cell, compares}
 
@@ -85,3 +86,15 @@ own_step (Cond-F.Within path negated terms) = is_own path
 
 abbrev pub is_local : Cond → Bool
 is_local = fold-Cond Bool own_step
+
+-- the conditions that have to hold together
+abbrev pub conjuncts_by : Cond → Cond-F Cond → List Cond
+conjuncts_by c (Cond-F.All cs) = cs
+conjuncts_by c _ = c ∷ []
+
+abbrev pub conjuncts : Cond → List Cond
+conjuncts c = conjuncts_by c (out-Cond c)
+
+-- those of them that a store can decide from a row alone
+abbrev pub local_part : Cond → List Cond
+local_part c = filter is_local (conjuncts c)

@@ -1,7 +1,7 @@
 -- What a transaction has changed and not yet committed (docs/platform.md, "Overlays").
-use Rattle.std.specs.Prelude.{◌≡◌, ℕ, ◌<◌, ◌&&◌, ◌||◌, not, eqb, nat_lt, Bool, true, false, cond, List, [], ◌∷◌, ◌++◌, map, filter, bytes_eq, Option, None, Some}
+use Rattle.std.specs.Prelude.{ℕ, ◌&&◌, not, eqb, nat_lt, cond, List, [], ◌∷◌, ◌++◌, filter, Option, None, Some}
 use Rattle.apex_schema.specs.declared.row.Row.{Row}
-use Rattle.apex_schema.specs.Stores.{put, put_all, without, of_object}
+use Rattle.apex_schema.specs.Stores.{put_all, without, of_object}
 
 -- a row, or that the Id has none any more
 pub data Change : Type 0 where

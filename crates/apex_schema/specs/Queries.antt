@@ -1,5 +1,5 @@
 -- Which rows a query means, on a whole store (docs/platform.md, "Queries").
-use Rattle.std.specs.Prelude.{ℕ, ℤ, pos, negsuc, ◌&&◌, ◌||◌, not, eqb, Bool, true, false, cond, List, [], ◌∷◌, map, filter, take, drop, slice_get, length, Option, None, Some}
+use Rattle.std.specs.Prelude.{ℕ, pos, ◌&&◌, not, eqb, Bool, true, false, cond, List, [], ◌∷◌, map, filter, take, drop, slice_get, Option, None, Some}
 use Rattle.std.specs.Ordering.{ordering_reverse, ordering_then}
 use Rattle.std.specs.declared.cmp.Ordering.{Ordering}
 use Rattle.std.specs.declared.cmp.Ordering.TheVariants.{Less, Equal, Greater}
@@ -19,6 +19,7 @@ use Rattle.apex_schema.specs.declared.query.Path.{Path}
 use Rattle.apex_schema.specs.declared.query.Term.{Term}
 use Rattle.apex_schema.specs.declared.query.SortKey.{SortKey}
 use Rattle.apex_schema.specs.declared.query.Query.{Query}
+use Rattle.apex_schema.specs.declared.query.Query.TheViews.{out-Query, out-SubQuery}
 use Rattle.apex_schema.specs.declared.query.SubQuery.{SubQuery}
 use Rattle.apex_schema.specs.declared.row.Row.{Row}
 use Rattle.apex_schema.specs.declared.row.Child.{Child}
@@ -26,7 +27,6 @@ use Rattle.apex_schema.specs.declared.row.Found.{Found}
 use Rattle.apex_schema.specs.Cells.{bytes_cmp, cell_cmp}
 use Rattle.apex_schema.specs.Conds.{cell_of, term_value, holds, is_none}
 use Rattle.apex_schema.specs.Stores.{find, of_object}
-use Rattle.apex_schema.specs.Users.{user_id}
 use Rattle.apex_schema.specs.Accesses.{is_id, access}
 
 -- ---- paths over parents
@@ -149,18 +149,18 @@ sees schema share rows Sharing user row = is_visible (access schema user row (of
 module _ (schema : Schema) (share : ℕ) (rows : List Row) (binds : List Bind) (mode : Mode) (user : ℕ) where
   abbrev pub meant : Query → (Row → Bool) → List Row
   meant q test =
-      limited (count_of binds q.limit)
-      (skipped (count_of binds q.offset)
-      (sorted (row_cmp (path_value schema rows) q.keys)
-      (filter (λ (r : Row). test r && (holds binds (path_value schema rows r) q.cond && sees schema share rows mode user r)) (of_object q.object rows))))
+      limited (count_of binds (out-Query q).limit)
+      (skipped (count_of binds (out-Query q).offset)
+      (sorted (row_cmp (path_value schema rows) (out-Query q).keys)
+      (filter (λ (r : Row). test r && (holds binds (path_value schema rows r) (out-Query q).cond && sees schema share rows mode user r)) (of_object (out-Query q).object rows))))
 
   -- the cells of the selected paths of more than one name
   abbrev pub parent_cells : Query → Row → List Cell
-  parent_cells q row = map (path_value schema rows row) (filter (λ (p : Path). not (is_none p.parents)) q.paths)
+  parent_cells q row = map (path_value schema rows row) (filter (λ (p : Path). not (is_none p.parents)) (out-Query q).paths)
 
   abbrev pub children_of : Row → SubQuery → List Child
-  children_of row sub = map (λ c. record { row = c; paths = parent_cells sub.query c }) (meant sub.query (λ c. is_id (cell_of c sub.lookup) row.id))
+  children_of row sub = map (λ c. record { row = c; paths = parent_cells (out-SubQuery sub).query c }) (meant (out-SubQuery sub).query (λ c. is_id (cell_of c (out-SubQuery sub).lookup) row.id))
 
   -- the rows that a query finds
   abbrev pub plain : Query → List Found
-  plain q = map (λ r. record { row = r; paths = parent_cells q r; children = map (children_of r) q.children }) (meant q (λ r. true))
+  plain q = map (λ r. record { row = r; paths = parent_cells q r; children = map (children_of r) (out-Query q).children }) (meant q (λ r. true))

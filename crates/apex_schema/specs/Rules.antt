@@ -1,7 +1,7 @@
 -- When a validation rule holds (docs/platform.md, "Validation rules").
-use Rattle.std.specs.Prelude.{ℕ, ◌*◌, pos, ◌&&◌, ◌||◌, not, Bool, true, false, cond, List, [], ◌∷◌, length, bytes_eq, Option, None, Some}
+use Rattle.std.specs.Prelude.{ℕ, ◌*◌, pos, ◌&&◌, ◌||◌, not, Bool, true, false, List, [], length, bytes_eq, Option, None, Some}
 use Rattle.std.specs.List.{list_all, list_any}
-use Rattle.std.specs.Ordering.{int_cmp, is_eq, is_lt, is_gt, int_eq}
+use Rattle.std.specs.Ordering.{int_cmp, is_lt, is_gt, int_eq}
 use Rattle.std.specs.declared.cmp.Ordering.{Ordering}
 use Rattle.std.specs.Str.{chars}
 use Rattle.apex_num.specs.declared.cell.Cell.{Cell}

@@ -1,10 +1,10 @@
 -- One tenant's rows, and what they answer (docs/platform.md, "Rows and stores").
-use Rattle.std.specs.Prelude.{◌≡◌, ℕ, ◌<◌, ◌&&◌, eqb, Bool, true, false, cond, List, [], ◌∷◌, length, slice_get, bytes_eq, filter, Option, None, Some}
+use Rattle.std.specs.Prelude.{◌≡◌, ℕ, ◌&&◌, eqb, Bool, true, false, cond, List, [], ◌∷◌, slice_get, bytes_eq, filter, Option, None, Some}
 use Rattle.std.specs.List.{list_any}
 use Rattle.std.specs.declared.cmp.Ordering.{Ordering}
 use Rattle.std.specs.declared.cmp.Ordering.TheVariants.{Less, Equal, Greater}
 use Rattle.apex_num.specs.declared.cell.Cell.{Cell}
-use Rattle.apex_num.specs.declared.cell.Cell.TheVariants.{Null, Bool as Truth, Whole, Num, Text, Id, Day, Moment}
+use Rattle.apex_num.specs.declared.cell.Cell.TheVariants.{Null, Bool as Truth, Num, Text, Id, Day, Moment}
 use Rattle.apex_schema.specs.declared.schema.FieldKind.{FieldKind}
 use Rattle.apex_schema.specs.declared.schema.FieldKind.TheVariants as Kind
 use Rattle.apex_schema.specs.declared.schema.Field.{Field}

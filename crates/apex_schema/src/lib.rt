@@ -22,3 +22,6 @@ pub use rule::{Rule, RuleOp, RuleTerm};
 pub use schema::{
     Access, Field, FieldKind, Link, Mode, Object, Role, Rollup, RollupBy, RuleHead, Schema, User,
 };
+
+#[cfg(test)]
+mod tests;
