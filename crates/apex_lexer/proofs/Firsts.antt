@@ -1,5 +1,5 @@
 -- The pieces that texts begin with, class by class.
-use Rattle.std.proofs.Common.{◌≡◌, ◌≢◌, ⊎_elim, ℕ, zero, suc, ◌+◌, ◌<◌, ◌≤◌, ◌||◌, nat_lt, Bool, true, false, cond, eqb, List, [], ◌∷◌, length, take, drop, get_or, Option, Some, None, refl, sym, ap, ◌∙◌, subst, arith}
+use Rattle.std.proofs.Common.{leb, ◌≡◌, ◌≢◌, ⊎_elim, ℕ, zero, suc, ◌+◌, ◌<◌, ◌≤◌, ◌&&◌, ◌||◌, nat_lt, Bool, true, false, cond, eqb, bytes_eq, List, [], ◌∷◌, length, take, drop, get_or, Option, Some, None, refl, sym, ap, ◌∙◌, subst, arith}
 use Rattle.std.specs.List.{list_all}
 use Rattle.std.specs.Char.{is_ascii_digit, is_ascii_alphabetic}
 use Rattle.std.proofs.lemmas.List.{length-take-le}
@@ -12,9 +12,12 @@ use Rattle.apex_lexer.specs.declared.lexeme.LexWord.TheVariants.{BadChar}
 use Rattle.apex_lexer.specs.declared.lexeme.Lexeme.{Lexeme}
 use Rattle.apex_lexer.specs.declared.lexeme.Lexeme.TheVariants.{Apart, Says, Wrong}
 use Rattle.apex_lexer.specs.declared.scan.Found.{Found}
-use Rattle.apex_lexer.specs.Words.{sign_words, sign_of, keyword_of, kind_of, word_kind}
+use Rattle.apex_lexer.specs.Words.{value_of, sign_words, sign_of, keyword_of, kind_of, word_kind}
 use Rattle.apex_lexer.specs.Lexemes.{is_word_byte, is_blank, goes_on, front, run, word, sign_or, sign, number, quoted, slashed, plain}
-use Rattle.apex_lexer.specs.Scans.{begins, sign_if, behind_first, Fits, IsLongest}
+use Rattle.apex_lexer.specs.Scans.{begins, sign_if, behind_first, Fits, IsLongest, is_second}
+use Rattle.std.specs.Bool.{Decides}
+use Rattle.std.proofs.lemmas.Slice.Eq.{bytes_eq-Decides}
+use Rattle.apex_lexer.proofs.Bools.{both}
 use Rattle.apex_lexer.proofs.Rows.{short, too_long}
 use Rattle.apex_lexer.proofs.Runs.{front_most, front_some, run_all, run_more}
 
@@ -66,6 +69,9 @@ if_some size text s e =
     (λ h. let f : None ≡ Some s = sym (ap (λ t. cond t (sign_of (take size text)) None) h.0) ∙ e in cc)
     (leb_tells size (length text))
 
+if_short : (size : ℕ) (text : List ℕ) → length text < size → sign_if size text ≡ None
+if_short size text lt = ap (λ t. cond t (sign_of (take size text)) None) (⊎_elim (λ h. absurd (let l = h.1 in omega arith)) (λ h. h.0) (leb_tells size (length text)))
+
 -- no sign is longer than one that is found, where longer ones were looked for
 module _ (text : List ℕ) (size : ℕ) (none : (n : ℕ) → size < n → n ≤ 3 → sign_if n text ≡ None) where
   no_longer : (m : ℕ) → 0 < size → size < m → m ≤ length text → sign (take m text) ≡ None
@@ -96,6 +102,43 @@ bad_longest (b ∷ bs) some none = record {
   spells = ap (λ o. sign_or o (b ∷ [])) (sym (if_within 1 (b ∷ bs) (omega arith)) ∙ none 1 (omega arith) (omega arith));
   longest = λ m lt le. no_longer (b ∷ bs) 1 (λ n l h. none n (omega arith) h) m (omega arith) lt le;
 }
+
+abbrev second_fits : List ℕ → Bool
+second_fits [] = true
+second_fits (a ∷ []) = true
+second_fits (a ∷ b ∷ bs) = is_second b
+
+-- no sign has another second byte
+abbrev seconds : List (List ℕ × Sign) → Bool
+seconds [] = true
+seconds (row ∷ rows) = second_fits row.0 && seconds rows
+
+all_seconds : seconds sign_words ≡ true
+unfolding sign_words
+all_seconds = refl
+
+other_word : (w : List ℕ) (a b : ℕ) (bs : List ℕ) → second_fits w ≡ true → is_second b ≡ false → bytes_eq w (a ∷ b ∷ bs) ≡ false
+other_word w a b bs fits other = by (bytes_eq w (a ∷ b ∷ bs)) (bytes_eq-Decides w (a ∷ b ∷ bs))
+  where
+    by : (t : Bool) → Decides t (w ≡ a ∷ b ∷ bs) → t ≡ false
+    by false d = refl
+    by true d = let e : false ≡ true = sym other ∙ sym (ap second_fits (d.0 refl)) ∙ fits in cc
+
+not_found : (rows : List (List ℕ × Sign)) (a b : ℕ) (bs : List ℕ) → seconds rows ≡ true → is_second b ≡ false → value_of rows (a ∷ b ∷ bs) ≡ None
+not_found [] a b bs fits other = refl
+not_found (row ∷ rows) a b bs fits other =
+    let f = both (second_fits row.0) (seconds rows) fits in
+    ap (λ t. cond t (Some row.1) (value_of rows (a ∷ b ∷ bs))) (other_word row.0 a b bs f.0 other) ∙ not_found rows a b bs f.1 other
+
+-- no sign of two bytes or more where the second one is none of these
+pub no_long_sign : (text : List ℕ) (n : ℕ) → begins is_second (drop 1 text) ≡ false → sign_if (suc (suc n)) text ≡ None
+no_long_sign [] n e = if_short (suc (suc n)) [] (omega arith)
+no_long_sign (a ∷ []) n e = if_short (suc (suc n)) (a ∷ []) (omega arith)
+no_long_sign (a ∷ b ∷ bs) n e = by (leb (suc (suc n)) (length (a ∷ b ∷ bs)))
+  where
+    by : (t : Bool) → cond t (sign_of (a ∷ b ∷ take n bs)) None ≡ None
+    by true = not_found sign_words a b (take n bs) all_seconds e
+    by false = refl
 
 -- no sign of these sizes
 pub none_of_three : (text : List ℕ) → sign_if 3 text ≡ None → (n : ℕ) → 2 < n → n ≤ 3 → sign_if n text ≡ None

@@ -37,6 +37,10 @@ abbrev pub noted_escape : Bool → Option ℕ → ℕ → ℕ → Option ℕ
 noted_escape escaped (Some before) b at = Some before
 noted_escape escaped None b at = cond (escaped && not (is_escape b)) (Some (at - 1)) None
 
+-- what may stand in a sign behind its first byte: = & | + - >
+abbrev pub is_second : ℕ → Bool
+is_second b = eqb b 61 || (eqb b 38 || (eqb b 124 || (eqb b 43 || (eqb b 45 || eqb b 62))))
+
 -- the sign that so many bytes at the front are
 abbrev pub sign_if : ℕ → List ℕ → Option Sign
 sign_if size text = cond (leb size (length text)) (sign_of (take size text)) None

@@ -1,6 +1,6 @@
 // The first piece of a text, dates apart.
 
-ghost use Rattle.std.specs.Prelude.{◌≡◌, ◌≤◌, ◌<◌, ◌+◌, ◌-◌, ◌*◌, ◌^◌, ℕ, ◌&&◌, not, eqb, true, pos, length, take, drop, slice_index, map, false, IfSome, MatchOption};
+ghost use Rattle.std.specs.Prelude.{◌≡◌, ◌≤◌, ◌<◌, ◌+◌, ◌-◌, ◌*◌, ◌^◌, ℕ, ◌&&◌, not, eqb, true, pos, length, take, drop, slice_index, map, false, None, IfSome, MatchOption};
 ghost use Rattle.std.specs.List.{list_all};
 ghost use Rattle.std.specs.Char.{is_ascii_digit, is_ascii_alphabetic};
 ghost use Rattle.std.specs.Str.Parse.{AllDigits, digits_value};
@@ -9,7 +9,7 @@ ghost use Rattle.apex_lexer.specs.Words.{sign_shown, sign_words, keyword_shown, 
 ghost use Rattle.apex_lexer.specs.Lexemes.{front, is_blank, is_escape, word as word_lexeme, sign as sign_lexeme, within, decimal as decimal_lexeme, number as number_lexeme, closed_text, quoted as quoted_lexeme, slashed, plain};
 ghost use Rattle.apex_lexer.specs.declared.lexeme.Lexeme.TheVariants.{Says, Wrong};
 ghost use Rattle.apex_lexer.specs.declared.lexeme.LexWord.TheVariants.{OpenText};
-ghost use Rattle.apex_lexer.specs.Scans.{test_of, begins, is_long_letter, has_part, noted_escape, sign_if, Goes, IsLongest, behind_first};
+ghost use Rattle.apex_lexer.specs.Scans.{test_of, begins, is_long_letter, has_part, noted_escape, is_second, sign_if, Goes, IsLongest, behind_first};
 
 use crate::lexeme::{LexWord, Lexeme};
 use crate::table::{KeywordRow, SignRow};
@@ -95,17 +95,41 @@ fn found_sign(sign: Sign, size: usize) -> Found
     }
 }
 
+// Whether the second byte of a text may stand in a sign behind the first one.
+fn may_go_on(text: &[u8]) -> bool
+    ensures { result ≡ begins is_second (drop 1 text.now) }
+{
+    match text.get(1) {
+        Some(b) => matches!(*b, b'=' | b'&' | b'|' | b'+' | b'-' | b'>'),
+        None => false,
+    }
+}
+
+// A sign of three or two characters.
+fn long_sign(signs: &Cases<SignRow, 35>, text: &[u8]) -> Option<Found>
+    requires { map sign_shown signs.now.rows.now ≡ sign_words }
+    ensures { MatchOption result ((sign_if 3 text.now ≡ None) × (sign_if 2 text.now ≡ None)) (IsLongest sign_lexeme text.now) }
+{
+    if !may_go_on(text) {
+        return None;
+    }
+    if let Some(sign) = sign_at(signs, text, 3) {
+        return Some(found_sign(sign, 3));
+    }
+    match sign_at(signs, text, 2) {
+        Some(sign) => Some(found_sign(sign, 2)),
+        None => None,
+    }
+}
+
 // A sign, or a character that begins nothing.
 fn sign(signs: &Cases<SignRow, 35>, text: &[u8]) -> Found
     requires table { map sign_shown signs.now.rows.now ≡ sign_words }
     requires some { 0 < length text.now }
     ensures { IsLongest sign_lexeme text.now result }
 {
-    if let Some(sign) = sign_at(signs, text, 3) {
-        return found_sign(sign, 3);
-    }
-    if let Some(sign) = sign_at(signs, text, 2) {
-        return found_sign(sign, 2);
+    if let Some(found) = long_sign(signs, text) {
+        return found;
     }
     if let Some(sign) = sign_at(signs, text, 1) {
         return found_sign(sign, 1);
