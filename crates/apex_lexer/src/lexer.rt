@@ -242,8 +242,9 @@ fn lex_with<'a>(
     }
 }
 
-/// The tokens of a text, in one pass over its bytes, with the end of input as the last one; or the first fault of
-/// the text, with its span. At one place a byte that begins no character comes before another fault.
+/// The tokens of a text, with the end of input as the last one; or the first fault of the text, with its span. At one
+/// place a byte that begins no character comes before another fault. The text is cut in one pass over its bytes, and
+/// a second one asks whether it is UTF-8.
 ///
 /// A date or moment is one token only between a `[` and the `]` that closes it. To know that, the first such form
 /// that stands behind an open `[` makes the lexer look once at the brackets of the whole text; only then it takes
