@@ -3,18 +3,19 @@ use Rattle.std.proofs.Common.{arith, ◌≡◌, ◌+◌, ◌*◌, ◌<◌, ◌�
 use Rattle.std.proofs.lemmas.List.{take-append-drop}
 use Rattle.std.proofs.Math.Seq.{drop-cons, take-append_seam, drop-append-add, drop-length}
 use Rattle.jiff_core.specs.Calendar.{days_from_civil}
-use Rattle.date_texts.specs.Forms.{IsThree, IsCivil, IsDateText, IsClockText, IsMomentText, BeginsDate, BeginsMoment}
+use Rattle.civil_days.specs.Days.{IsCivil, IsDateOf}
+use Rattle.date_texts.specs.Forms.{IsThree, IsDateText, IsClockText, IsMomentText, BeginsDate, BeginsMoment}
 use Rattle.date_texts.proofs.Parts.{one_reading}
 
 pub no_date : (text : List ℕ) → ((a b c : ℕ) → IsThree 4 45 text a b c → ⊥) → (n : ℤ) → IsDateText text n → ⊥
 no_date text none n t = none t.0 t.1 t.2 t.3
 
-pub date_answer : (text : List ℕ) (y m d : ℕ) (o : Option ℤ) → IsThree 4 45 text y m d → MatchOption o (IsCivil y m d → ⊥) (λ n. IsCivil y m d × (n ≡ days_from_civil (pos y) m d))
+pub date_answer : (text : List ℕ) (y m d : ℕ) (o : Option ℤ) → IsThree 4 45 text y m d → MatchOption o (IsCivil y m d → ⊥) (λ n. IsDateOf n y m d)
     → MatchOption o ((day : ℤ) → IsDateText text day → ⊥) (λ day. IsDateText text day)
-date_answer text y m d (Some n) t some = (y, m, d, t, some.0, some.1)
+date_answer text y m d (Some n) t some = (y, m, d, t, some)
 date_answer text y m d None t none = λ day u.
     let same = one_reading 4 45 text u.0 u.1 u.2 y m d u.3 t in
-    none (subst (λ (x : ℕ × ℕ × ℕ). IsCivil x.0 x.1 x.2) (λ i. (same.0 i, same.1 i, same.2 i)) u.4)
+    none (subst (λ (x : ℕ × ℕ × ℕ). IsCivil x.0 x.1 x.2) (λ i. (same.0 i, same.1 i, same.2 i)) u.4.0)
 
 pub no_clock : (text : List ℕ) → ((a b c : ℕ) → IsThree 2 58 text a b c → ⊥) → (n : ℕ) → IsClockText text n → ⊥
 no_clock text none n t = none t.0 t.1 t.2 t.3
@@ -121,7 +122,7 @@ moment_begins text false long first last d none = λ m. let f = moment_form text
 pub one_date : (text : List ℕ) (m n : ℤ) → IsDateText text m → IsDateText text n → m ≡ n
 one_date text m n d e =
     let same = one_reading 4 45 text d.0 d.1 d.2 e.0 e.1 e.2 d.3 e.3 in
-    d.5 ∙ ap (λ (x : ℕ × ℕ × ℕ). days_from_civil (pos x.0) x.1 x.2) (λ i. (same.0 i, same.1 i, same.2 i)) ∙ sym e.5
+    d.4.1 ∙ ap (λ (x : ℕ × ℕ × ℕ). days_from_civil (pos x.0) x.1 x.2) (λ i. (same.0 i, same.1 i, same.2 i)) ∙ sym e.4.1
 
 one_clock : (text : List ℕ) (m n : ℕ) → IsClockText text m → IsClockText text n → m ≡ n
 one_clock text m n d e =

@@ -1,7 +1,7 @@
 -- Dates and moments as texts (docs/formats.md, "Dates and moments").
-use Rattle.std.specs.Prelude.{◌≡◌, ℕ, ◌+◌, ◌*◌, ◌<◌, ◌≤◌, ℤ, pos, ◌+ℤ◌, ◌*ℤ◌, List, [], ◌∷◌, ◌++◌, length}
+use Rattle.std.specs.Prelude.{◌≡◌, ℕ, ◌+◌, ◌*◌, ◌<◌, ℤ, pos, ◌+ℤ◌, ◌*ℤ◌, List, [], ◌∷◌, ◌++◌, length}
 use Rattle.std.specs.Str.Parse.{AllDigits, digits_value}
-use Rattle.jiff_core.specs.Calendar.{days_from_civil, days_in_month}
+use Rattle.civil_days.specs.Days.{IsDateOf}
 
 -- the text is so many digits, which come to a
 abbrev pub IsField : ℕ → List ℕ → ℕ → Type 0
@@ -15,13 +15,9 @@ pub record IsThree (n sign : ℕ) (text : List ℕ) (a b c : ℕ) : Type 0 where
   pub written : text ≡ first ++ sign ∷ (second ++ sign ∷ third)
   pub fields : IsField n first a × IsField 2 second b × IsField 2 third c
 
--- a date of the years 1 to 9999
-abbrev pub IsCivil : ℕ → ℕ → ℕ → Type 0
-IsCivil year month day = (1 ≤ year) × (year ≤ 9999) × (1 ≤ month) × (month ≤ 12) × (1 ≤ day) × (day ≤ days_in_month (pos year) month)
-
 -- the text is YYYY-MM-DD, a date of the years 1 to 9999, so many days from 1970-01-01
 abbrev pub IsDateText : List ℕ → ℤ → Type 0
-IsDateText text n = (year : ℕ) × (month : ℕ) × (day : ℕ) × IsThree 4 45 text year month day × IsCivil year month day × (n ≡ days_from_civil (pos year) month day)
+IsDateText text n = (year : ℕ) × (month : ℕ) × (day : ℕ) × IsThree 4 45 text year month day × IsDateOf n year month day
 
 -- the text is hh:mm:ss, a time of the day, so many seconds from its beginning
 abbrev pub IsClockText : List ℕ → ℕ → Type 0

@@ -2,10 +2,9 @@
 
 ghost use Rattle.std.specs.Prelude.{◌≡◌, ◌≤◌, ◌<◌, ◌*◌, ◌+◌, ◌^◌, ℕ, ℤ, pos, length, MatchBool, MatchOption, IfSome};
 ghost use Rattle.std.specs.Str.Parse.{AllDigits, digits_value};
-ghost use Rattle.date_texts.specs.Forms.{IsThree, IsCivil, IsDateText, IsClockText, IsMomentText, BeginsDate, BeginsMoment};
-ghost use Rattle.jiff_core.specs.Calendar.{days_from_civil};
+ghost use Rattle.date_texts.specs.Forms.{IsThree, IsDateText, IsClockText, IsMomentText, BeginsDate, BeginsMoment};
 
-use jiff::civil::Date;
+use civil_days::day_of;
 
 // What digits come to, or None where a byte is no digit.
 fn field(text: &[u8]) -> Option<u16>
@@ -42,19 +41,6 @@ fn three(text: &[u8], n: usize, sign: u8) -> Option<(u16, u16, u16)>
     Some((first, second, third))
 }
 
-// The day number of a date of the years 1 to 9999.
-fn day_number(year: u16, month: u16, day: u16) -> Option<i32>
-    ensures { MatchOption result (IsCivil year month day → ⊥) (λ n. IsCivil year month day × (n ≡ days_from_civil (pos year) month day)) }
-{
-    if year == 0 || year > 9999 || month > 12 || day > 31 {
-        return None;
-    }
-    match Date::new(year as i16, month as i8, day as i8) {
-        Ok(date) => Some(date.to_plain().to_unix_epoch_day()),
-        Err(_) => None,
-    }
-}
-
 /// The days from 1970-01-01 of a date written `YYYY-MM-DD`. `None` exactly where the text has another form or is no
 /// date of the years 1 to 9999.
 pub fn read_date(text: &[u8]) -> Option<i32>
@@ -62,7 +48,7 @@ pub fn read_date(text: &[u8]) -> Option<i32>
     ensures only { IfSome result (λ day. (other : ℤ) → IsDateText text.now other → other ≡ day) }
 {
     match three(text, 4, b'-') {
-        Some((year, month, day)) => day_number(year, month, day),
+        Some((year, month, day)) => day_of(year, month, day),
         None => None,
     }
 }

@@ -1,5 +1,4 @@
-//! Dates and moments of the years 1 to 9999 as texts. Civil dates are those of `jiff`, the Gregorian calendar
-//! carried back before its time.
+//! Dates and moments of the years 1 to 9999 as texts. The calendar is that of `civil_days`.
 #![tactic(auto)]
 
 mod date;
