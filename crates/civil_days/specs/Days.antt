@@ -1,5 +1,5 @@
 -- Days and their dates (docs/formats.md, "Dates and moments").
-use Rattle.std.specs.Prelude.{◌≡◌, ℕ, ◌+◌, ◌*◌, ◌≤◌, ℤ, pos, ◌+ℤ◌, min}
+use Rattle.std.specs.Prelude.{◌≡◌, ℕ, ◌+◌, ◌*◌, ◌≤◌, ◌<◌, ℤ, pos, ◌+ℤ◌, ◌*ℤ◌, min}
 use Rattle.jiff_core.specs.Calendar.{days_from_civil, days_in_month}
 
 -- a date of the years 1 to 9999
@@ -29,3 +29,11 @@ pub record IsMonthsLater (months n later : ℤ) : Type 0 where
   pub month₂ : ℕ
   pub after : IsMonthAfter months year month year₂ month₂
   pub to : IsDateOf later year₂ month₂ (min day (days_in_month (pos year₂) month₂))
+
+-- the moment stands so many seconds behind the beginning of that day, a day of the years 1 to 9999
+abbrev pub IsMomentOf : ℤ → ℤ → ℕ → Type 0
+IsMomentOf n day second = IsDay day × (second < 86400) × (n ≡ day *ℤ pos 86400 +ℤ pos second)
+
+-- a moment of the years 1 to 9999
+abbrev pub IsMoment : ℤ → Type 0
+IsMoment n = (day : ℤ) × (second : ℕ) × IsMomentOf n day second

@@ -121,3 +121,48 @@ fn years_later(rt: HostRuntime) -> Result<(), Fail> {
     }
     Ok(())
 }
+
+#[test]
+fn moments(rt: HostRuntime) -> Result<(), Fail> {
+    let rows: [(i32, u32, Option<i64>); 11] = [
+        (0, 0, Some(0)),
+        (0, 3_723, Some(3_723)),
+        (-1, 86_399, Some(-1)),
+        (-1, 0, Some(-86_400)),
+        (20_784, 29_649, Some(1_795_767_249)),
+        (-719_162, 0, Some(-62_135_596_800)),
+        (2_932_896, 86_399, Some(253_402_300_799)),
+        (0, 86_400, None),
+        (-719_163, 86_399, None),
+        (2_932_897, 0, None),
+        (i32::MIN, u32::MAX, None),
+    ];
+    for (day, second, moment) in rows {
+        assert!(rt; moment_of(day, second) == moment);
+        if let Some(moment) = moment {
+            assert!(rt; split_moment(moment) == Some((day, second)));
+        }
+    }
+    for moment in [-62_135_596_801, 253_402_300_800, i64::MIN, i64::MAX] {
+        assert!(rt; split_moment(moment) == None);
+    }
+    Ok(())
+}
+
+#[test]
+fn seconds_later(rt: HostRuntime) -> Result<(), Fail> {
+    let rows: [(i64, i64, Option<i64>); 8] = [
+        (0, 0, Some(0)),
+        (0, -1, Some(-1)),
+        (-62_135_596_800, 315_537_897_599, Some(253_402_300_799)),
+        (253_402_300_799, 1, None),
+        (-62_135_596_800, -1, None),
+        (i64::MIN, -1, None),
+        (i64::MAX, 1, None),
+        (-62_135_596_801, 1, Some(-62_135_596_800)),
+    ];
+    for (moment, seconds, later) in rows {
+        assert!(rt; add_seconds(moment, seconds) == later);
+    }
+    Ok(())
+}
