@@ -116,6 +116,18 @@ like_nothing : text_like [] (codes "%") ≡ true
 unfolding chars
 like_nothing = refl
 
+-- the 18 characters of the Id 001A00000000001, whose check characters are IAA
+like_id : compares Like (Id (codes "001A00000000001")) (Text (codes "001a%1iaa")) ≡ true
+unfolding chars
+like_id = refl
+
+like_id_15 : compares Like (Id (codes "001A00000000001")) (Text (codes "001A00000000001")) ≡ false
+unfolding chars
+like_id_15 = refl
+
+like_number : compares Like (Num (pos 1)) (Text (codes "%")) ≡ false
+like_number = refl
+
 -- ---- rows
 
 one : List ℕ

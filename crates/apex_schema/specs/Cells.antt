@@ -5,6 +5,7 @@ use Rattle.std.specs.Cmp.Lexicographic.{slice_cmp}
 use Rattle.std.specs.declared.cmp.Ordering.{Ordering}
 use Rattle.std.specs.Str.{chars}
 use Rattle.apex_text.specs.Fold.{folded}
+use Rattle.apex_num.specs.Ids.{long_id}
 use Rattle.apex_num.specs.declared.cell.Cell.{Cell}
 use Rattle.apex_num.specs.declared.cell.Cell.TheVariants.{Null, Bool as Truth, Whole, Num, Text, Id, Day, Moment}
 use Rattle.apex_schema.specs.declared.query.CondOp.{CondOp}
@@ -70,9 +71,10 @@ agrees false (p ∷ ps) text =
 abbrev pub text_like : List ℕ → List ℕ → Bool
 text_like text pattern = agrees false (chars (folded pattern)) (chars (folded text))
 
--- LIKE of two values; false where one is no text
+-- LIKE of two values, of an Id by its 18 characters; false of other values, and where the pattern is no text
 abbrev pub cell_like : Cell → Cell → Bool
 cell_like (Text text) (Text pattern) = text_like text pattern
+cell_like (Id id) (Text pattern) = text_like (long_id id) pattern
 cell_like _ _ = false
 
 -- ---- comparisons
