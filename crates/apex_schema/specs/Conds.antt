@@ -1,5 +1,5 @@
 -- Conditions on rows (docs/platform.md, "Conditions").
-use Rattle.std.specs.Prelude.{ℕ, not, Bool, true, false, cond, List, [], ◌∷◌, map, filter, slice_get, Option, None, Some}
+use Rattle.std.specs.Prelude.{ℕ, not, Bool, cond, List, [], ◌∷◌, map, filter, slice_get, Option, None, Some}
 use Rattle.std.specs.List.{list_all, list_any}
 use Rattle.apex_num.specs.declared.cell.Cell.{Cell}
 use Rattle.apex_num.specs.declared.cell.Cell.TheVariants.{Null}
@@ -15,7 +15,7 @@ use Rattle.apex_schema.specs.declared.query.Cond.TheOpen.{Cond-F}
 use Rattle.apex_schema.specs.declared.query.Cond.TheFolds.{fold-Cond}
 use Rattle.apex_schema.specs.declared.query.Cond.TheViews.{out-Cond}
 use Rattle.apex_schema.specs.declared.row.Row.{Row}
-use Rattle.apex_schema.specs.Cells.{same_cell, compares}
+use Rattle.apex_schema.specs.Cells.{is_empty, same_cell, compares}
 
 -- the cell of a field; null where the row has no such cell
 abbrev pub or_null : Option Cell → Cell
@@ -70,12 +70,8 @@ holds_of c row = holds [] (own_value row) c
 
 -- ---- the part that names only fields of the query's own object
 
-abbrev pub is_none : List ℕ → Bool
-is_none [] = true
-is_none (f ∷ fs) = false
-
 abbrev pub is_own : Path → Bool
-is_own path = is_none path.parents
+is_own path = is_empty path.parents
 
 abbrev pub own_step : Cond-F Bool → Bool
 own_step (Cond-F.All cs) = list_all (λ b. b) cs

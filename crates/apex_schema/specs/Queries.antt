@@ -24,8 +24,8 @@ use Rattle.apex_schema.specs.declared.query.SubQuery.{SubQuery}
 use Rattle.apex_schema.specs.declared.row.Row.{Row}
 use Rattle.apex_schema.specs.declared.row.Child.{Child}
 use Rattle.apex_schema.specs.declared.row.Found.{Found}
-use Rattle.apex_schema.specs.Cells.{bytes_cmp, cell_cmp}
-use Rattle.apex_schema.specs.Conds.{cell_of, term_value, holds, is_none}
+use Rattle.apex_schema.specs.Cells.{bytes_cmp, cell_cmp, is_null, is_empty}
+use Rattle.apex_schema.specs.Conds.{cell_of, term_value, holds}
 use Rattle.apex_schema.specs.Stores.{find, of_object}
 use Rattle.apex_schema.specs.Accesses.{is_id, access}
 
@@ -90,12 +90,8 @@ turned false o = o
 turned true None = None
 turned true (Some o) = Some (ordering_reverse o)
 
-abbrev pub is_null_cell : Cell → Bool
-is_null_cell Null = true
-is_null_cell _ = false
-
 abbrev pub key_cmp : SortKey → Cell → Cell → Ordering
-key_cmp key a b = with_nulls key.nulls_last (turned key.descending (cell_cmp a b)) (is_null_cell a) (is_null_cell b)
+key_cmp key a b = with_nulls key.nulls_last (turned key.descending (cell_cmp a b)) (is_null a) (is_null b)
 
 -- by the keys, then by Id
 abbrev pub row_cmp : (Row → Path → Cell) → List SortKey → Row → Row → Ordering
@@ -156,7 +152,7 @@ module _ (schema : Schema) (share : ℕ) (rows : List Row) (binds : List Bind) (
 
   -- the cells of the selected paths of more than one name
   abbrev pub parent_cells : Query → Row → List Cell
-  parent_cells q row = map (path_value schema rows row) (filter (λ (p : Path). not (is_none p.parents)) (out-Query q).paths)
+  parent_cells q row = map (path_value schema rows row) (filter (λ (p : Path). not (is_empty p.parents)) (out-Query q).paths)
 
   abbrev pub children_of : Row → SubQuery → List Child
   children_of row sub = map (λ c. record { row = c; paths = parent_cells (out-SubQuery sub).query c }) (meant (out-SubQuery sub).query (λ c. is_id (cell_of c (out-SubQuery sub).lookup) row.id))

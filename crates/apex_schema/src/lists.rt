@@ -10,173 +10,119 @@ use crate::schema::{Field, Object, Role, RuleHead, User};
 use apex_list::Items;
 use apex_num::{Cell, Id, NoMemory, Text};
 
-pub fn copy_roles(list: &Items<Role>) -> Result<Items<Role>, NoMemory>
+// What an equal value can be made of, where there is memory.
+pub trait Copied: Sized + Drop {
+    fn copied(&self) -> Result<Self, NoMemory>
+        ensures { IfOk result (λ c. c ≡ self.now) };
+}
+
+pub fn copy_list<T: Copied>(list: &Items<T>) -> Result<Items<T>, NoMemory>
     ensures { IfOk result (λ v. v ≡ list.now) }
 {
     let mut done = Items::new(list.allocator());
-    for role in list.as_slice() {
-        done.push(role.copy()?)?;
+    for item in list.as_slice() {
+        done.push(item.copied()?)?;
     }
     Ok(done)
 }
 
-pub fn copy_users(list: &Items<User>) -> Result<Items<User>, NoMemory>
-    ensures { IfOk result (λ v. v ≡ list.now) }
-{
-    let mut done = Items::new(list.allocator());
-    for user in list.as_slice() {
-        done.push(user.copy()?)?;
+impl Copied for Role {
+    fn copied(&self) -> Result<Role, NoMemory> {
+        self.copy()
     }
-    Ok(done)
 }
 
-pub fn copy_objects(list: &Items<Object>) -> Result<Items<Object>, NoMemory>
-    ensures { IfOk result (λ v. v ≡ list.now) }
-{
-    let mut done = Items::new(list.allocator());
-    for object in list.as_slice() {
-        done.push(object.copy()?)?;
+impl Copied for User {
+    fn copied(&self) -> Result<User, NoMemory> {
+        self.copy()
     }
-    Ok(done)
 }
 
-pub fn copy_fields(list: &Items<Field>) -> Result<Items<Field>, NoMemory>
-    ensures { IfOk result (λ v. v ≡ list.now) }
-{
-    let mut done = Items::new(list.allocator());
-    for field in list.as_slice() {
-        done.push(field.copy()?)?;
+impl Copied for Object {
+    fn copied(&self) -> Result<Object, NoMemory> {
+        self.copy()
     }
-    Ok(done)
 }
 
-pub fn copy_heads(list: &Items<RuleHead>) -> Result<Items<RuleHead>, NoMemory>
-    ensures { IfOk result (λ v. v ≡ list.now) }
-{
-    let mut done = Items::new(list.allocator());
-    for head in list.as_slice() {
-        done.push(head.copy()?)?;
+impl Copied for Field {
+    fn copied(&self) -> Result<Field, NoMemory> {
+        self.copy()
     }
-    Ok(done)
 }
 
-pub fn copy_rules(list: &Items<Rule>) -> Result<Items<Rule>, NoMemory>
-    ensures { IfOk result (λ v. v ≡ list.now) }
-{
-    let mut done = Items::new(list.allocator());
-    for rule in list.as_slice() {
-        done.push(rule.copy()?)?;
+impl Copied for RuleHead {
+    fn copied(&self) -> Result<RuleHead, NoMemory> {
+        self.copy()
     }
-    Ok(done)
 }
 
-pub fn copy_cells(list: &Items<Cell>) -> Result<Items<Cell>, NoMemory>
-    ensures { IfOk result (λ v. v ≡ list.now) }
-{
-    let mut done = Items::new(list.allocator());
-    for cell in list.as_slice() {
-        done.push(cell.copy()?)?;
+impl Copied for Rule {
+    fn copied(&self) -> Result<Rule, NoMemory> {
+        self.copy()
     }
-    Ok(done)
 }
 
-pub fn copy_children(list: &Items<Child>) -> Result<Items<Child>, NoMemory>
-    ensures { IfOk result (λ v. v ≡ list.now) }
-{
-    let mut done = Items::new(list.allocator());
-    for child in list.as_slice() {
-        done.push(child.copy()?)?;
+impl Copied for Cell {
+    fn copied(&self) -> Result<Cell, NoMemory> {
+        self.copy()
     }
-    Ok(done)
 }
 
-pub fn copy_rows(list: &Items<Row>) -> Result<Items<Row>, NoMemory>
-    ensures { IfOk result (λ v. v ≡ list.now) }
-{
-    let mut done = Items::new(list.allocator());
-    for row in list.as_slice() {
-        done.push(row.copy()?)?;
+impl Copied for Child {
+    fn copied(&self) -> Result<Child, NoMemory> {
+        self.copy()
     }
-    Ok(done)
 }
 
-pub fn copy_paths(list: &Items<Path>) -> Result<Items<Path>, NoMemory>
-    ensures { IfOk result (λ v. v ≡ list.now) }
-{
-    let mut done = Items::new(list.allocator());
-    for path in list.as_slice() {
-        done.push(path.copy()?)?;
+impl Copied for Row {
+    fn copied(&self) -> Result<Row, NoMemory> {
+        self.copy()
     }
-    Ok(done)
 }
 
-pub fn copy_terms(list: &Items<Term>) -> Result<Items<Term>, NoMemory>
-    ensures { IfOk result (λ v. v ≡ list.now) }
-{
-    let mut done = Items::new(list.allocator());
-    for term in list.as_slice() {
-        done.push(term.copy()?)?;
+impl Copied for Path {
+    fn copied(&self) -> Result<Path, NoMemory> {
+        self.copy()
     }
-    Ok(done)
 }
 
-pub fn copy_keys(list: &Items<SortKey>) -> Result<Items<SortKey>, NoMemory>
-    ensures { IfOk result (λ v. v ≡ list.now) }
-{
-    let mut done = Items::new(list.allocator());
-    for key in list.as_slice() {
-        done.push(key.copy()?)?;
+impl Copied for Term {
+    fn copied(&self) -> Result<Term, NoMemory> {
+        self.copy()
     }
-    Ok(done)
 }
 
-pub fn copy_saves(list: &Items<SaveRow>) -> Result<Items<SaveRow>, NoMemory>
-    ensures { IfOk result (λ v. v ≡ list.now) }
-{
-    let mut done = Items::new(list.allocator());
-    for save in list.as_slice() {
-        done.push(save.copy()?)?;
+impl Copied for SortKey {
+    fn copied(&self) -> Result<SortKey, NoMemory> {
+        self.copy()
     }
-    Ok(done)
 }
 
-pub fn copy_texts(list: &Items<Text>) -> Result<Items<Text>, NoMemory>
-    ensures { IfOk result (λ v. v ≡ list.now) }
-{
-    let mut done = Items::new(list.allocator());
-    for text in list.as_slice() {
-        done.push(text.copy()?)?;
+impl Copied for SaveRow {
+    fn copied(&self) -> Result<SaveRow, NoMemory> {
+        self.copy()
     }
-    Ok(done)
 }
 
-pub fn copy_lists(list: &Items<Items<Child>>) -> Result<Items<Items<Child>>, NoMemory>
-    ensures { IfOk result (λ v. v ≡ list.now) }
-{
-    let mut done = Items::new(list.allocator());
-    for children in list.as_slice() {
-        done.push(copy_children(children)?)?;
+impl Copied for Text {
+    fn copied(&self) -> Result<Text, NoMemory> {
+        self.copy()
     }
-    Ok(done)
 }
 
-fn copy_place(cell: &Option<Cell>) -> Result<Option<Cell>, NoMemory>
-    ensures { IfOk result (λ c. c ≡ cell.now) }
-{
-    Ok(match cell {
-        Some(cell) => Some(cell.copy()?),
-        None => None,
-    })
+impl Copied for Option<Cell> {
+    fn copied(&self) -> Result<Option<Cell>, NoMemory> {
+        Ok(match self {
+            Some(cell) => Some(cell.copy()?),
+            None => None,
+        })
+    }
 }
 
-pub fn copy_known(list: &Items<Option<Cell>>) -> Result<Items<Option<Cell>>, NoMemory>
-    ensures { IfOk result (λ v. v ≡ list.now) }
-{
-    let mut done = Items::new(list.allocator());
-    for cell in list.as_slice() {
-        done.push(copy_place(cell)?)?;
+impl Copied for Items<Child> {
+    fn copied(&self) -> Result<Items<Child>, NoMemory> {
+        copy_list(self)
     }
-    Ok(done)
 }
 
 pub fn copy_ids(list: &Items<Id>) -> Result<Items<Id>, NoMemory>

@@ -2,9 +2,7 @@
 
 ghost use Rattle.std.specs.Prelude.{◌≡◌, IfOk};
 
-use crate::lists::{
-    copy_cells, copy_ids, copy_keys, copy_numbers, copy_paths, copy_rows, copy_terms,
-};
+use crate::lists::{copy_ids, copy_list, copy_numbers};
 use crate::row::Row;
 use apex_list::{Boxed, Items};
 use apex_num::{Cell, Id, NoMemory};
@@ -149,7 +147,7 @@ impl Terms {
         ensures { IfOk result (λ c. c ≡ self.now) }
     {
         Ok(match self {
-            Terms::Given(list) => Terms::Given(copy_terms(list)?),
+            Terms::Given(list) => Terms::Given(copy_list(list)?),
             Terms::Bound(n) => Terms::Bound(*n),
         })
     }
@@ -228,10 +226,10 @@ impl Query {
         Ok(Query {
             object: self.object,
             counted: self.counted,
-            paths: copy_paths(&self.paths)?,
+            paths: copy_list(&self.paths)?,
             children: copy_subqueries(&self.children)?,
             cond: self.cond.copy()?,
-            keys: copy_keys(&self.keys)?,
+            keys: copy_list(&self.keys)?,
             limit: copy_count(&self.limit)?,
             offset: copy_count(&self.offset)?,
             locked: self.locked,
@@ -270,7 +268,7 @@ impl Bind {
     {
         Ok(match self {
             Bind::One(cell) => Bind::One(cell.copy()?),
-            Bind::Many(cells) => Bind::Many(copy_cells(cells)?),
+            Bind::Many(cells) => Bind::Many(copy_list(cells)?),
         })
     }
 }
@@ -298,7 +296,7 @@ impl Answer {
         ensures { IfOk result (λ c. c ≡ self.now) }
     {
         Ok(match self {
-            Answer::Rows(rows) => Answer::Rows(copy_rows(rows)?),
+            Answer::Rows(rows) => Answer::Rows(copy_list(rows)?),
             Answer::Granted => Answer::Granted,
         })
     }

@@ -2,7 +2,7 @@
 
 ghost use Rattle.std.specs.Prelude.{◌≡◌, IfOk};
 
-use crate::lists::copy_texts;
+use crate::lists::copy_list;
 use apex_list::Items;
 use apex_num::{Id, LimitKind, NoMemory, Text};
 use thiserror::Error;
@@ -186,7 +186,7 @@ impl Reply {
     {
         Ok(Reply {
             outcome: self.outcome.copy()?,
-            debug: copy_texts(&self.debug)?,
+            debug: copy_list(&self.debug)?,
             counts: self.counts,
             ops: self.ops,
         })

@@ -2,7 +2,7 @@
 
 ghost use Rattle.std.specs.Prelude.{◌≡◌, IfOk};
 
-use crate::lists::{copy_known, copy_rows, copy_saves};
+use crate::lists::copy_list;
 use crate::reply::Fault;
 use crate::row::Row;
 use apex_list::Items;
@@ -94,7 +94,7 @@ impl SaveRow {
         Ok(SaveRow {
             key: self.key,
             id: self.id,
-            cells: copy_known(&self.cells)?,
+            cells: copy_list(&self.cells)?,
         })
     }
 }
@@ -139,7 +139,7 @@ impl Work {
                 op: *op,
                 object: *object,
                 all_or_none: *all_or_none,
-                rows: copy_saves(rows)?,
+                rows: copy_list(rows)?,
             },
             Work::Refused(fault) => Work::Refused(fault.copy()?),
         })
@@ -167,8 +167,8 @@ impl Context {
         Ok(Context {
             op: self.op,
             before: self.before,
-            news: copy_rows(&self.news)?,
-            olds: copy_rows(&self.olds)?,
+            news: copy_list(&self.news)?,
+            olds: copy_list(&self.olds)?,
         })
     }
 }

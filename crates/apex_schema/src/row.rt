@@ -2,7 +2,7 @@
 
 ghost use Rattle.std.specs.Prelude.{◌≡◌, IfOk};
 
-use crate::lists::{copy_cells, copy_ids, copy_lists, copy_rows};
+use crate::lists::{copy_ids, copy_list};
 use apex_list::Items;
 use apex_num::{Cell, Id, NoMemory};
 
@@ -47,7 +47,7 @@ impl Row {
         Ok(Row {
             object: self.object,
             id: self.id,
-            cells: copy_cells(&self.cells)?,
+            cells: copy_list(&self.cells)?,
         })
     }
 }
@@ -59,7 +59,7 @@ impl Child {
     {
         Ok(Child {
             row: self.row.copy()?,
-            paths: copy_cells(&self.paths)?,
+            paths: copy_list(&self.paths)?,
         })
     }
 }
@@ -71,8 +71,8 @@ impl Found {
     {
         Ok(Found {
             row: self.row.copy()?,
-            paths: copy_cells(&self.paths)?,
-            children: copy_lists(&self.children)?,
+            paths: copy_list(&self.paths)?,
+            children: copy_list(&self.children)?,
         })
     }
 }
@@ -83,7 +83,7 @@ impl Writes {
         ensures { IfOk result (λ c. c ≡ self.now) }
     {
         Ok(Writes {
-            puts: copy_rows(&self.puts)?,
+            puts: copy_list(&self.puts)?,
             drops: copy_ids(&self.drops)?,
         })
     }

@@ -2,7 +2,7 @@
 
 ghost use Rattle.std.specs.Prelude.{◌≡◌, IfOk};
 
-use crate::lists::{copy_fields, copy_heads, copy_objects, copy_roles, copy_rules, copy_users};
+use crate::lists::copy_list;
 use crate::rule::Rule;
 use apex_list::Items;
 use apex_num::{NoMemory, Text};
@@ -216,9 +216,9 @@ impl Object {
             name: self.name.copy()?,
             prefix: self.prefix.copy()?,
             default: self.default,
-            fields: copy_fields(&self.fields)?,
-            heads: copy_heads(&self.heads)?,
-            rules: copy_rules(&self.rules)?,
+            fields: copy_list(&self.fields)?,
+            heads: copy_list(&self.heads)?,
+            rules: copy_list(&self.rules)?,
         })
     }
 }
@@ -229,9 +229,9 @@ impl Schema {
         ensures { IfOk result (λ c. c ≡ self.now) }
     {
         Ok(Schema {
-            roles: copy_roles(&self.roles)?,
-            users: copy_users(&self.users)?,
-            objects: copy_objects(&self.objects)?,
+            roles: copy_list(&self.roles)?,
+            users: copy_list(&self.users)?,
+            objects: copy_list(&self.objects)?,
         })
     }
 }
