@@ -1,10 +1,24 @@
 //! The trees of Apex source.
 //!
-//! So far they are those of small blocks: declarations of Integers and `System.debug` over whole numbers
-//! (docs/language.md). Spans and the other forms come with the whole grammar.
+//! So far they are those of queries, expressions and statements, with their spans, and in `tree` those of small
+//! blocks: declarations of Integers and `System.debug` over whole numbers (docs/language.md).
 #![tactic(auto)]
 
-mod tree;
+mod expr;
+mod query;
+mod stmt;
+pub mod tree;
 pub mod typed;
+mod word;
 
-pub use tree::{Block, Chain, Link, Op, Product, ProductOp, Stmt, Sum, SumOp, Tail, Unary};
+pub use expr::{
+    AssignOp, BinaryOp, Expr, FieldValue, Literal, NewItem, NewPart, Operand, PostfixPart,
+    PrefixOp, StepOp, TypeTree,
+};
+pub use query::{
+    BindTree, CompareOp, CondTree, CountTree, KeyTree, ListTree, NumberTree, PathTree, QueryTree,
+    SelTree, SelectTree, ValueTree,
+};
+pub use stmt::{Body, Catch, Declarator, DmlOp, ForStart, Stmt};
+pub use tree::{Link, Op};
+pub use word::Word;

@@ -8,7 +8,7 @@ ghost use Rattle.small_block.specs.Reading.{next_op, product_op, sum_op, ReadsUn
 
 use crate::token::Token;
 use apex_list::{Boxed, Items};
-use apex_syntax::{Chain, Product, ProductOp, Stmt, Sum, SumOp, Tail, Unary};
+use apex_syntax::tree::{Chain, Product, ProductOp, Stmt, Sum, SumOp, Tail, Unary};
 use apex_text::Name;
 use std::alloc::{AllocError, Global};
 

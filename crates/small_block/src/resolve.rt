@@ -6,7 +6,7 @@ ghost use Rattle.small_block.specs.Typing.{slot_of, is_in_scope, sum_op_of, prod
 
 use apex_list::{Boxed, Items};
 use apex_syntax::typed::{Block, Expr, Stmt as Typed};
-use apex_syntax::{Link, Op, Product, ProductOp, Stmt, Sum, SumOp, Unary};
+use apex_syntax::tree::{Link, Op, Product, ProductOp, Stmt, Sum, SumOp, Unary};
 use apex_text::Name;
 use indexmap::IndexSet;
 use std::alloc::{AllocError, Global};

@@ -1,0 +1,149 @@
+// The trees of queries: one variant for each alternative of the grammar, and one field for each part.
+
+use crate::word::Word;
+use apex_list::{Boxed, Items};
+use apex_text::Span;
+
+/// A query. Each tree's span goes from its first token to its last one: byte places from 0.
+#[derive(Debug, Drop)]
+#[cycle(query)]
+pub struct QueryTree {
+    pub span: Span,
+    pub select: SelectTree,
+    /// The object behind `FROM`.
+    pub object: Word,
+    /// The condition behind `WHERE`.
+    pub cond: Option<CondTree>,
+    /// The keys behind `ORDER BY`; none where it isn't written.
+    pub keys: Items<KeyTree>,
+    pub limit: Option<CountTree>,
+    pub offset: Option<CountTree>,
+    /// `FOR UPDATE`
+    pub locked: bool,
+}
+
+/// What a query selects.
+#[derive(Debug, Drop)]
+#[cycle(query)]
+pub enum SelectTree {
+    /// `COUNT()`
+    Count(Span),
+    /// One or more paths and subqueries.
+    Items(Items<SelTree>),
+}
+
+/// An item behind `SELECT`.
+#[derive(Debug, Drop)]
+#[cycle(query)]
+pub enum SelTree {
+    Path(PathTree),
+    /// A query in parentheses; the span has them.
+    Query(Span, Boxed<QueryTree>),
+}
+
+/// One to six names with dots between them.
+#[derive(Debug, Drop)]
+pub struct PathTree {
+    pub span: Span,
+    pub names: Items<Word>,
+}
+
+/// A condition.
+#[derive(Debug, Drop)]
+pub enum CondTree {
+    /// Two or more conditions with `AND` between them.
+    All(Span, Items<CondTree>),
+    /// Two or more conditions with `OR` between them.
+    Any(Span, Items<CondTree>),
+    /// `NOT`
+    Not(Span, Boxed<CondTree>),
+    /// A condition in parentheses.
+    Paren(Span, Boxed<CondTree>),
+    /// `path op value`
+    Compare(Span, PathTree, CompareOp, ValueTree),
+    /// `path IN list`, and `path NOT IN list` where the mark says so.
+    Within(Span, PathTree, bool, ListTree),
+}
+
+/// An operator of a condition.
+#[derive(Clone, Copy, Debug, PartialEq, Eq, Drop)]
+pub enum CompareOp {
+    /// `=`
+    Equal,
+    /// `!=` and `<>`
+    Differs,
+    /// `<`
+    Less,
+    /// `<=`
+    AtMost,
+    /// `>`
+    More,
+    /// `>=`
+    AtLeast,
+    /// `LIKE`
+    Like,
+}
+
+/// A value of a condition.
+#[derive(Debug, Drop)]
+pub enum ValueTree {
+    /// A number, and whether a `-` stands before it.
+    Number(Span, bool, NumberTree),
+    /// The bytes that a text literal stands for, without its quotes and escapes.
+    Text(Span, Items<u8>),
+    /// The days from 1970-01-01.
+    Date(Span, i32),
+    /// The seconds from 1970-01-01T00:00:00Z.
+    Moment(Span, i64),
+    Bool(Span, bool),
+    Null(Span),
+    Bind(BindTree),
+}
+
+/// A number without a sign.
+#[derive(Clone, Copy, Debug, PartialEq, Eq, Drop)]
+pub enum NumberTree {
+    Integer(i32),
+    Long(i64),
+    /// The millionths of a Decimal.
+    Decimal(u64),
+}
+
+/// What stands behind `IN`.
+#[derive(Debug, Drop)]
+pub enum ListTree {
+    /// One or more values in parentheses; the span has them.
+    Values(Span, Items<ValueTree>),
+    Bind(BindTree),
+}
+
+/// A key of an order.
+#[derive(Debug, Drop)]
+pub struct KeyTree {
+    pub span: Span,
+    pub path: PathTree,
+    /// `DESC`
+    pub descending: bool,
+    /// `NULLS LAST`
+    pub nulls_last: bool,
+}
+
+/// What stands behind `LIMIT` and `OFFSET`.
+#[derive(Debug, Drop)]
+pub enum CountTree {
+    /// An Integer literal.
+    Whole(Span, i32),
+    Bind(BindTree),
+}
+
+/// A bind, kept as a range of tokens: it begins with the colon, and its expression stands behind that.
+#[derive(Clone, Copy, Debug, PartialEq, Eq, Drop)]
+pub struct BindTree {
+    pub span: Span,
+    /// The place of the colon among the tokens, from 0.
+    pub from: usize,
+    /// The place of the token behind the bind.
+    pub to: usize,
+    /// How many forms may still be opened inside of it.
+    pub room: usize,
+}

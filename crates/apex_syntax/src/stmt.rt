@@ -1,0 +1,80 @@
+// The trees of statements.
+
+use crate::expr::{Expr, TypeTree};
+use crate::word::Word;
+use apex_list::{Boxed, Items};
+use apex_text::Span;
+
+/// Statements in braces; the span has them.
+#[derive(Debug, Drop)]
+#[cycle(stmt)]
+pub struct Body {
+    pub span: Span,
+    pub stmts: Items<Stmt>,
+}
+
+/// A statement.
+#[derive(Debug, Drop)]
+#[cycle(stmt)]
+pub enum Stmt {
+    Block(Body),
+    /// `;`
+    Empty(Span),
+    Declare(Span, TypeTree, Items<Declarator>),
+    Expr(Span, Expr),
+    /// A condition, a statement, and the one behind `else`.
+    If(Span, Expr, Boxed<Stmt>, Option<Boxed<Stmt>>),
+    While(Span, Expr, Boxed<Stmt>),
+    Do(Span, Boxed<Stmt>, Expr),
+    /// What it begins with, its condition, its step and its statement.
+    For(Span, ForStart, Option<Expr>, Option<Expr>, Boxed<Stmt>),
+    /// `for (type name : list) stmt`
+    ForEach(Span, TypeTree, Word, Expr, Boxed<Stmt>),
+    Return(Span, Option<Expr>),
+    Break(Span),
+    Continue(Span),
+    Throw(Span, Expr),
+    Try(Span, Body, Items<Catch>, Option<Body>),
+    Dml(Span, DmlOp, Expr),
+    /// `this(..);`
+    This(Span, Items<Expr>),
+    /// `super(..);`
+    Super(Span, Items<Expr>),
+}
+
+/// A name of a declaration, and its value.
+#[derive(Debug, Drop)]
+pub struct Declarator {
+    pub name: Word,
+    pub value: Option<Expr>,
+}
+
+/// What stands before the first `;` of a `for`.
+#[derive(Debug, Drop)]
+pub enum ForStart {
+    Nothing,
+    /// Each name has a value.
+    Declare(TypeTree, Items<Declarator>),
+    Expr(Expr),
+}
+
+/// `catch (class name) { .. }`
+#[derive(Debug, Drop)]
+#[cycle(stmt)]
+pub struct Catch {
+    pub span: Span,
+    pub class: Word,
+    /// The name behind a dot of the class.
+    pub member: Option<Word>,
+    pub name: Word,
+    pub body: Body,
+}
+
+/// A statement that changes records.
+#[derive(Clone, Copy, Debug, PartialEq, Eq, Drop)]
+pub enum DmlOp {
+    Insert,
+    Update,
+    Delete,
+    Upsert,
+}

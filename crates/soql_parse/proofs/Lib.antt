@@ -1,0 +1,4 @@
+mod Groups
+mod Paths
+mod Conds
+mod Locks

@@ -1,0 +1,12 @@
+use Rattle.std.proofs.Common.{◌-◌, length}
+use Rattle.apex_lexer.specs.declared.token.Sign.TheVariants.{Comma}
+use Rattle.token_grammar.specs.Tokens.{next_sign}
+use Rattle.token_grammar.proofs.Chain.{Listed}
+use Rattle.soql_parse.specs.Queries as grammar
+use Rattle.soql_parse.proofs.select.more_sub_items.Given as goal
+
+abbrev pub invariant-items : goal.invariant-items
+invariant-items l = Listed l.tokens (next_sign Comma) (grammar.comma_sub_item l.room) l.at l.fn.first l.items l.end
+
+abbrev pub decreases-items : goal.decreases-items
+decreases-items l = length l.tokens - l.end

@@ -1,0 +1,5 @@
+use Rattle.token_grammar.proofs.Chain.{past}
+use Rattle.soql_parse.proofs.value.comma_value.Goals as goal
+
+pub returns : goal.returns
+returns c = past c.in_ok-behind.ensures c.value.ensures

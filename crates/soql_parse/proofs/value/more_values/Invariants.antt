@@ -1,0 +1,12 @@
+use Rattle.std.proofs.Common.{◌-◌, length}
+use Rattle.apex_lexer.specs.declared.token.Sign.TheVariants.{Comma}
+use Rattle.token_grammar.specs.Tokens.{next_sign}
+use Rattle.token_grammar.proofs.Chain.{Listed}
+use Rattle.soql_parse.specs.Queries as grammar
+use Rattle.soql_parse.proofs.value.more_values.Given as goal
+
+abbrev pub invariant-values : goal.invariant-values
+invariant-values l = Listed l.tokens (next_sign Comma) (grammar.comma_value l.room) l.at l.fn.first l.values l.end
+
+abbrev pub decreases-values : goal.decreases-values
+decreases-values l = length l.tokens - l.end

@@ -1,0 +1,366 @@
+// Queries.
+
+ghost use Rattle.std.specs.Prelude.{◌≡◌, MatchBool, MatchResult};
+ghost use Rattle.token_grammar.specs.Readings.{Told, Found, RefusedBy};
+ghost use Rattle.token_grammar.specs.Tokens.{optional, next_word};
+ghost use Rattle.apex_lexer.specs.declared.token.Keyword.TheVariants as keywords;
+ghost use Rattle.soql_parse.specs.Queries as grammar;
+
+use crate::cond::cond;
+use crate::order::keys;
+use crate::path::path;
+use crate::value::count;
+use apex_lexer::{Keyword, Sign, Token};
+use apex_list::{Boxed, Items};
+use apex_syntax::{CondTree, CountTree, KeyTree, QueryTree, SelTree, SelectTree, Word};
+use apex_text::Span;
+use std::alloc::Global;
+use token_grammar::{
+    Names, ParseFault, ParseWord, Stop, fault_of, is_sign, is_word, name, open_sign, pass_sign,
+    pass_word, span_of,
+};
+
+// What stands behind `FROM`.
+#[derive(Debug, Drop)]
+pub struct FromPart {
+    pub object: Word,
+    pub cond: Option<CondTree>,
+    pub keys: Items<KeyTree>,
+    pub limit: Option<CountTree>,
+    pub offset: Option<CountTree>,
+}
+
+fn where_part(
+    alloc: Global,
+    tokens: &[Token],
+    at: usize,
+    room: usize,
+) -> Result<(Option<CondTree>, usize), Stop>
+    ensures { Told tokens.now (optional (next_word keywords.Where) (grammar.where_part room)) at result }
+{
+    if is_word(tokens, at, Keyword::Where) {
+        let behind = pass_word(tokens, at, Keyword::Where)?;
+        let (cond, end) = cond(alloc, tokens, behind, room)?;
+        Ok((Some(cond), end))
+    } else {
+        Ok((None, at))
+    }
+}
+
+// A count behind a keyword, where that is written.
+fn count_part(
+    alloc: Global,
+    tokens: &[Token],
+    at: usize,
+    room: usize,
+    word: Keyword,
+) -> Result<(Option<CountTree>, usize), Stop>
+    ensures { Told tokens.now (optional (next_word word) (grammar.count_part word room)) at result }
+{
+    if is_word(tokens, at, word) {
+        let behind = pass_word(tokens, at, word)?;
+        let (count, end) = count(alloc, tokens, behind, room)?;
+        Ok((Some(count), end))
+    } else {
+        Ok((None, at))
+    }
+}
+
+fn source(
+    alloc: Global,
+    tokens: &[Token],
+    at: usize,
+    room: usize,
+) -> Result<(FromPart, usize), Stop>
+    ensures { Told tokens.now (grammar.source room) at result }
+{
+    let (object, behind) = name(alloc, tokens, at, Names::AllWords)?;
+    let (cond, behind) = where_part(alloc, tokens, behind, room)?;
+    let (keys, behind) = keys(alloc, tokens, behind)?;
+    let (limit, behind) = count_part(alloc, tokens, behind, room, Keyword::Limit)?;
+    let (offset, end) = count_part(alloc, tokens, behind, room, Keyword::Offset)?;
+    Ok((
+        FromPart {
+            object,
+            cond,
+            keys,
+            limit,
+            offset,
+        },
+        end,
+    ))
+}
+
+fn query_tree(span: Span, select: SelectTree, source: FromPart, locked: bool) -> QueryTree
+    ensures { result ≡ grammar.query_tree span select source locked }
+{
+    let FromPart {
+        object,
+        cond,
+        keys,
+        limit,
+        offset,
+    } = source;
+    QueryTree {
+        span,
+        select,
+        object,
+        cond,
+        keys,
+        limit,
+        offset,
+        locked,
+    }
+}
+
+fn path_item(alloc: Global, tokens: &[Token], at: usize) -> Result<(SelTree, usize), Stop>
+    ensures { Told tokens.now grammar.path_item at result }
+{
+    let (path, end) = path(alloc, tokens, at)?;
+    Ok((SelTree::Path(path), end))
+}
+
+// The parenthesis of a subquery in a subquery.
+fn second_level(tokens: &[Token], at: usize, room: usize) -> Result<(SelTree, usize), Stop>
+    ensures { Told tokens.now (grammar.second_level room) at result }
+{
+    let _ = open_sign(tokens, at, Sign::OpenParen, room)?;
+    Err(Stop::At(ParseWord::TooManyLevels, at))
+}
+
+fn sub_item(
+    alloc: Global,
+    tokens: &[Token],
+    at: usize,
+    room: usize,
+) -> Result<(SelTree, usize), Stop>
+    ensures { Told tokens.now (grammar.sub_item room) at result }
+{
+    if is_sign(tokens, at, Sign::OpenParen) {
+        second_level(tokens, at, room)
+    } else {
+        path_item(alloc, tokens, at)
+    }
+}
+
+fn comma_sub_item(
+    alloc: Global,
+    tokens: &[Token],
+    at: usize,
+    room: usize,
+) -> Result<(SelTree, usize), Stop>
+    ensures { Told tokens.now (grammar.comma_sub_item room) at result }
+{
+    let behind = pass_sign(tokens, at, Sign::Comma)?;
+    sub_item(alloc, tokens, behind, room)
+}
+
+// A first item of a subquery and those behind it.
+fn more_sub_items(
+    alloc: Global,
+    tokens: &[Token],
+    at: usize,
+    room: usize,
+    first: SelTree,
+) -> Result<(Items<SelTree>, usize), Stop>
+    ensures { Told tokens.now (grammar.more_sub_items room first) at result }
+{
+    let mut items = Items::new(alloc);
+    items.push(first)?;
+    let mut end = at;
+    'items: while is_sign(tokens, end, Sign::Comma) {
+        let (item, after) = comma_sub_item(alloc, tokens, end, room)?;
+        items.push(item)?;
+        end = after;
+    }
+    Ok((items, end))
+}
+
+fn sub_items(
+    alloc: Global,
+    tokens: &[Token],
+    at: usize,
+    room: usize,
+) -> Result<(SelectTree, usize), Stop>
+    ensures { Told tokens.now (grammar.sub_items room) at result }
+{
+    let (first, behind) = sub_item(alloc, tokens, at, room)?;
+    let (items, end) = more_sub_items(alloc, tokens, behind, room, first)?;
+    Ok((SelectTree::Items(items), end))
+}
+
+fn sub_query(
+    alloc: Global,
+    tokens: &[Token],
+    at: usize,
+    room: usize,
+) -> Result<(QueryTree, usize), Stop>
+    ensures { Told tokens.now (grammar.sub_query room) at result }
+{
+    let behind = pass_word(tokens, at, Keyword::Select)?;
+    let (select, behind) = sub_items(alloc, tokens, behind, room)?;
+    let behind = pass_word(tokens, behind, Keyword::From)?;
+    let (source, end) = source(alloc, tokens, behind, room)?;
+    let span = span_of(tokens, at, end);
+    Ok((query_tree(span, select, source, false), end))
+}
+
+// A subquery in its parentheses.
+fn sub_paren(
+    alloc: Global,
+    tokens: &[Token],
+    at: usize,
+    room: usize,
+) -> Result<(SelTree, usize), Stop>
+    ensures { Told tokens.now (grammar.sub_paren room) at result }
+{
+    let (inside, behind) = open_sign(tokens, at, Sign::OpenParen, room)?;
+    let (query, behind) = sub_query(alloc, tokens, behind, inside)?;
+    let end = pass_sign(tokens, behind, Sign::CloseParen)?;
+    let span = span_of(tokens, at, end);
+    Ok((SelTree::Query(span, Boxed::new(alloc, query)?), end))
+}
+
+fn item(alloc: Global, tokens: &[Token], at: usize, room: usize) -> Result<(SelTree, usize), Stop>
+    ensures { Told tokens.now (grammar.item room) at result }
+{
+    if is_sign(tokens, at, Sign::OpenParen) {
+        sub_paren(alloc, tokens, at, room)
+    } else {
+        path_item(alloc, tokens, at)
+    }
+}
+
+fn comma_item(
+    alloc: Global,
+    tokens: &[Token],
+    at: usize,
+    room: usize,
+) -> Result<(SelTree, usize), Stop>
+    ensures { Told tokens.now (grammar.comma_item room) at result }
+{
+    let behind = pass_sign(tokens, at, Sign::Comma)?;
+    item(alloc, tokens, behind, room)
+}
+
+// A first item and those behind it.
+fn more_items(
+    alloc: Global,
+    tokens: &[Token],
+    at: usize,
+    room: usize,
+    first: SelTree,
+) -> Result<(Items<SelTree>, usize), Stop>
+    ensures { Told tokens.now (grammar.more_items room first) at result }
+{
+    let mut items = Items::new(alloc);
+    items.push(first)?;
+    let mut end = at;
+    'items: while is_sign(tokens, end, Sign::Comma) {
+        let (item, after) = comma_item(alloc, tokens, end, room)?;
+        items.push(item)?;
+        end = after;
+    }
+    Ok((items, end))
+}
+
+fn items(
+    alloc: Global,
+    tokens: &[Token],
+    at: usize,
+    room: usize,
+) -> Result<(SelectTree, usize), Stop>
+    ensures { Told tokens.now (grammar.items room) at result }
+{
+    let (first, behind) = item(alloc, tokens, at, room)?;
+    let (items, end) = more_items(alloc, tokens, behind, room, first)?;
+    Ok((SelectTree::Items(items), end))
+}
+
+// Whether `COUNT` and a parenthesis stand here.
+fn is_count(tokens: &[Token], at: usize) -> bool
+    ensures { MatchBool result (grammar.next_count tokens.now at) (grammar.next_count tokens.now at → ⊥) }
+{
+    is_word(tokens, at, Keyword::Count) && is_sign(tokens, at + 1, Sign::OpenParen)
+}
+
+// `COUNT()`
+fn counting(tokens: &[Token], at: usize, room: usize) -> Result<(SelectTree, usize), Stop>
+    ensures { Told tokens.now (grammar.counting room) at result }
+{
+    let behind = pass_word(tokens, at, Keyword::Count)?;
+    let (_, behind) = open_sign(tokens, behind, Sign::OpenParen, room)?;
+    let end = pass_sign(tokens, behind, Sign::CloseParen)?;
+    Ok((SelectTree::Count(span_of(tokens, at, end)), end))
+}
+
+fn selection(
+    alloc: Global,
+    tokens: &[Token],
+    at: usize,
+    room: usize,
+) -> Result<(SelectTree, usize), Stop>
+    ensures { Told tokens.now (grammar.selection room) at result }
+{
+    if is_count(tokens, at) {
+        counting(tokens, at, room)
+    } else {
+        items(alloc, tokens, at, room)
+    }
+}
+
+// `FOR UPDATE`, which no order may stand before.
+fn locking(tokens: &[Token], at: usize, ordered: bool) -> Result<(bool, usize), Stop>
+    ensures { Told tokens.now (grammar.locking ordered) at result }
+{
+    let behind = pass_word(tokens, at, Keyword::For)?;
+    let end = pass_word(tokens, behind, Keyword::Update)?;
+    if ordered {
+        return Err(Stop::At(ParseWord::LockedOrder, at));
+    }
+    Ok((true, end))
+}
+
+fn lock(tokens: &[Token], at: usize, ordered: bool) -> Result<(bool, usize), Stop>
+    ensures { Told tokens.now (grammar.lock ordered) at result }
+{
+    if is_word(tokens, at, Keyword::For) {
+        locking(tokens, at, ordered)
+    } else {
+        Ok((false, at))
+    }
+}
+
+fn has_keys(source: &FromPart) -> bool
+    ensures { result ≡ grammar.has_keys source.now.keys }
+{
+    !source.keys.is_empty()
+}
+
+/// A query that begins at a token, where `room` more forms may be open: its tree and the place behind it.
+pub fn query_within(
+    alloc: Global,
+    tokens: &[Token],
+    at: usize,
+    room: usize,
+) -> Result<(QueryTree, usize), Stop>
+    ensures { Told tokens.now (grammar.query room) at result }
+{
+    let behind = pass_word(tokens, at, Keyword::Select)?;
+    let (select, behind) = selection(alloc, tokens, behind, room)?;
+    let behind = pass_word(tokens, behind, Keyword::From)?;
+    let (source, behind) = source(alloc, tokens, behind, room)?;
+    let (locked, end) = lock(tokens, behind, has_keys(&source))?;
+    let span = span_of(tokens, at, end);
+    Ok((query_tree(span, select, source, locked), end))
+}
+
+/// The query that begins at a token, and the place behind it. At most 64 forms are open at once.
+pub fn query(alloc: Global, tokens: &[Token], at: usize) -> Result<(QueryTree, usize), ParseFault>
+    ensures { MatchResult result (λ r. Found tokens.now (grammar.query 64) at r.0 r.1) (λ e. RefusedBy tokens.now (grammar.query 64) at e) }
+{
+    match query_within(alloc, tokens, at, 64) {
+        Ok(read) => Ok(read),
+        Err(stop) => Err(fault_of(tokens, stop)),
+    }
+}

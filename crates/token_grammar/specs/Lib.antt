@@ -1,0 +1,4 @@
+pub mod Notation
+pub mod Readings
+pub mod Literals
+pub mod Tokens
