@@ -5,8 +5,8 @@ ghost use Rattle.stack_compiler.specs.Code.{HasSlots};
 ghost use Rattle.small_block.specs.Typing.{slot_of, is_in_scope, sum_op_of, product_op_of, joined, unary_typed, product_typed, sum_typed, scoped, stmt_typed, block_typed};
 
 use apex_list::{Boxed, Items};
-use apex_syntax::typed::{Block, Expr, Stmt as Typed};
 use apex_syntax::tree::{Link, Op, Product, ProductOp, Stmt, Sum, SumOp, Unary};
+use apex_syntax::typed::{Block, Expr, Stmt as Typed};
 use apex_text::Name;
 use indexmap::IndexSet;
 use std::alloc::{AllocError, Global};

@@ -9,3 +9,6 @@ mod select;
 mod value;
 
 pub use select::{query, query_within};
+
+#[cfg(test)]
+mod tests;
