@@ -81,3 +81,7 @@ moved tokens (Many test item) at x m v h = absurd v
 pub nearer : {tokens : List Token} {A : Type 0} {r : Rule A} {at m : ℕ} {x : A} → Moves r → Told tokens r at (Ok (x, m)) → length tokens - m < length tokens - at
 nearer {tokens = tokens} {r = r} {at = at} {m = m} {x = x} v h =
     let p = moved tokens r at x m v h.by in let b = p.beyond in let i = p.inside in omega arith
+
+-- the place behind is a later one
+pub beyond : {tokens : List Token} {A : Type 0} {r : Rule A} {at m : ℕ} {x : A} → Moves r → Told tokens r at (Ok (x, m)) → at < m
+beyond {tokens = tokens} {r = r} {at = at} {m = m} {x = x} v h = let p = moved tokens r at x m v h.by in p.beyond
