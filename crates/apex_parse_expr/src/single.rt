@@ -1,7 +1,7 @@
 // Expressions and operators of one token, and what is asked of tokens.
 
-ghost use Rattle.std.specs.Prelude.{◌≡◌, ◌<◌, IfOk, MatchBool};
-ghost use Rattle.token_grammar.specs.Readings.{Told};
+ghost use Rattle.std.specs.Prelude.{◌≡◌, ◌<◌, IfOk, IfErr, MatchBool};
+ghost use Rattle.token_grammar.specs.Readings.{Told, IsNoMemory};
 ghost use Rattle.apex_parse_expr.specs.Exprs as grammar;
 
 use crate::part::Level;
@@ -110,7 +110,8 @@ pub fn is_step(tokens: &[Token], at: usize) -> bool
 
 /// `++` or `--`
 pub fn step(tokens: &[Token], at: usize) -> Result<(PostfixPart, usize), Stop>
-    ensures { Told tokens.now grammar.step at result }
+    ensures told { Told tokens.now grammar.step at result }
+    ensures memory { IfErr result (λ stop. IsNoMemory stop → ⊥) }
 {
     if let Some(token) = token_at(tokens, at) {
         if let Some(part) = step_of(token.span, token.kind) {
@@ -149,7 +150,8 @@ pub fn is_prefix(tokens: &[Token], at: usize) -> bool
 }
 
 fn prefix_op(tokens: &[Token], at: usize) -> Result<(PrefixOp, usize), Stop>
-    ensures { Told tokens.now grammar.prefix_op at result }
+    ensures told { Told tokens.now grammar.prefix_op at result }
+    ensures memory { IfErr result (λ stop. IsNoMemory stop → ⊥) }
 {
     if let Some(token) = token_at(tokens, at) {
         if let Some(op) = prefix_of(token.kind) {
@@ -163,6 +165,7 @@ fn prefix_op(tokens: &[Token], at: usize) -> Result<(PrefixOp, usize), Stop>
 pub fn open_prefix(tokens: &[Token], at: usize, room: usize) -> Result<(PrefixOp, usize), Stop>
     ensures told { Told tokens.now (grammar.open_prefix room) at result }
     ensures room { IfOk result (λ _. 0 < room) }
+    ensures memory { IfErr result (λ stop. IsNoMemory stop → ⊥) }
 {
     let (op, behind) = prefix_op(tokens, at)?;
     if room == 0 {
@@ -195,7 +198,8 @@ pub fn is_assign(tokens: &[Token], at: usize, target: bool) -> bool
 }
 
 fn assign_op(tokens: &[Token], at: usize) -> Result<(AssignOp, usize), Stop>
-    ensures { Told tokens.now grammar.assign_op at result }
+    ensures told { Told tokens.now grammar.assign_op at result }
+    ensures memory { IfErr result (λ stop. IsNoMemory stop → ⊥) }
 {
     if let Some(token) = token_at(tokens, at) {
         if let Some(op) = assign_of(token.kind) {
@@ -209,6 +213,7 @@ fn assign_op(tokens: &[Token], at: usize) -> Result<(AssignOp, usize), Stop>
 pub fn open_assign(tokens: &[Token], at: usize, room: usize) -> Result<(AssignOp, usize), Stop>
     ensures told { Told tokens.now (grammar.open_assign room) at result }
     ensures room { IfOk result (λ _. 0 < room) }
+    ensures memory { IfErr result (λ stop. IsNoMemory stop → ⊥) }
 {
     let (op, behind) = assign_op(tokens, at)?;
     if room == 0 {
@@ -272,7 +277,8 @@ pub fn is_op(tokens: &[Token], at: usize, level: Level) -> bool
 
 /// An operator of a level.
 pub fn op(tokens: &[Token], at: usize, level: Level) -> Result<(BinaryOp, usize), Stop>
-    ensures { Told tokens.now (grammar.op level) at result }
+    ensures told { Told tokens.now (grammar.op level) at result }
+    ensures memory { IfErr result (λ stop. IsNoMemory stop → ⊥) }
 {
     if let Some(token) = token_at(tokens, at) {
         if let Some(op) = level_op(level, token.kind) {

@@ -30,10 +30,3 @@ omega_room room h = omega arith
 pub group_at : {tokens : List Token} {room inside at : ℕ} {o : Result (Unit {0} × ℕ) Stop} → room ≡ suc inside → Told tokens (group_with room (group inside)) at o → Told tokens (group room) at o
 group_at {tokens = tokens} {inside = inside} {at = at} {o = o} e h =
     subst (λ r. Told tokens (group r) at o) (sym e) (subst (λ r. Told tokens (group_with r (group inside)) at o) e h)
-
--- the sign at the end
-pub last : {tokens : List Token} {kind : TokenKind} {at end : ℕ} → Passed tokens kind at (Ok end) → Told tokens (Is kind) at (Ok (tt, end))
-last h = record { by = h.by }
-
-pub last_stuck : {tokens : List Token} {kind : TokenKind} {at : ℕ} {e : Stop} → Passed tokens kind at (Err e) → Told tokens (Is kind) at (Err e)
-last_stuck h = record { by = h.by }

@@ -9,7 +9,7 @@ use Rattle.token_grammar.specs.declared.fault.Stop.{Stop}
 use Rattle.token_grammar.specs.declared.fault.Stop.TheVariants.{At, NoMemory}
 use Rattle.token_grammar.specs.Notation.{Rule, Give, Refuse, Here, Since, Is, Then, Choose, Many, Test, Each, Reads, span_of}
 use Rattle.token_grammar.specs.Tokens.{skip}
-use Rattle.token_grammar.specs.Readings.{Told, Passed, Tells, StopsBy}
+use Rattle.token_grammar.specs.Readings.{Told, Passed, Tells, StopsAt, StopsBy}
 
 -- ---- one after the other
 
@@ -34,7 +34,7 @@ halt {tokens = tokens} {a = a} {f = f} {at = at} {e = e} h = record { by = halt_
 pub past : {tokens : List Token} {B : Type 0} {kind : TokenKind} {f : Unit {0} → Rule B} {at m : ℕ} {o : Result (B × ℕ) Stop} → Passed tokens kind at (Ok m) → Told tokens (f tt) m o → Told tokens (Then (Is kind) f) at o
 past {tokens = tokens} {kind = kind} {f = f} {at = at} {m = m} {o = o} h k = record { by = then_tells tokens (Is kind) f at m tt o h.by k.by }
 
-stuck_tells : (tokens : List Token) {B : Type 0} (kind : TokenKind) (f : Unit {0} → Rule B) (at : ℕ) (e : Stop) → StopsBy tokens (Is kind) at e → Tells tokens (Then (Is kind) f) at (Err e)
+stuck_tells : (tokens : List Token) {B : Type 0} (kind : TokenKind) (f : Unit {0} → Rule B) (at : ℕ) (e : Stop) → StopsAt tokens (Is kind) at e → Tells tokens (Then (Is kind) f) at (Err e)
 stuck_tells tokens kind f at (At w p) h = inl h
 stuck_tells tokens kind f at NoMemory h = tt
 
@@ -61,6 +61,17 @@ refuses = record { by = (refl, refl) }
 
 pub passed : {tokens : List Token} {kind : TokenKind} {at : ℕ} {t : Token} → slice_get tokens at ≡ Some t → t.kind ≡ kind → Passed tokens kind at (Ok (at + 1))
 passed {at = at} {t = t} g k = record { by = (t, g, k, refl) }
+
+-- one token alone
+pub last : {tokens : List Token} {kind : TokenKind} {at end : ℕ} → Passed tokens kind at (Ok end) → Told tokens (Is kind) at (Ok (tt, end))
+last h = record { by = h.by }
+
+last_by : (tokens : List Token) (kind : TokenKind) (at : ℕ) (e : Stop) → StopsAt tokens (Is kind) at e → StopsBy tokens (Is kind) at e
+last_by tokens kind at (At w p) h = h
+last_by tokens kind at NoMemory h = tt
+
+pub last_stuck : {tokens : List Token} {kind : TokenKind} {at : ℕ} {e : Stop} → Passed tokens kind at (Err e) → Told tokens (Is kind) at (Err e)
+last_stuck {tokens = tokens} {kind = kind} {at = at} {e = e} h = record { by = last_by tokens kind at e h.by }
 
 -- ---- choices
 

@@ -22,11 +22,21 @@ Tells tokens rule at (Err stop) = StopsBy tokens rule at stop
 pub record Told (tokens : List Token) {A : Type 0} (rule : Rule A) (at : ℕ) (answer : Result (A × ℕ) Stop) : Type 0 where
   pub by : Tells tokens rule at answer
 
+-- the same of a call that takes no memory
+abbrev pub StopsAt : List Token → {A : Type 0} → Rule A → ℕ → Stop → Type 0
+StopsAt tokens rule at (At word place) = Stops tokens rule at word place
+StopsAt tokens rule at NoMemory = ⊥
+
 abbrev pub Passes : List Token → TokenKind → ℕ → Result ℕ Stop → Type 0
 Passes tokens kind at (Ok end) = Reads tokens (Is kind) at tt end
-Passes tokens kind at (Err stop) = StopsBy tokens (Is kind) at stop
+Passes tokens kind at (Err stop) = StopsAt tokens (Is kind) at stop
 
--- the answer has the place behind one token that says just this, or where the reading stops
+-- why a reading stops is no want of memory
+abbrev pub IsNoMemory : Stop → Type 0
+IsNoMemory (At word place) = ⊥
+IsNoMemory NoMemory = Unit {0}
+
+-- the answer has the place behind one token that says just this, or where the reading stops; it takes no memory
 pub record Passed (tokens : List Token) (kind : TokenKind) (at : ℕ) (answer : Result ℕ Stop) : Type 0 where
   pub by : Passes tokens kind at answer
 

@@ -1,10 +1,10 @@
 // Readings of one token.
 
-ghost use Rattle.std.specs.Prelude.{◌≡◌, ◌↔◌, ◌<◌, length, slice_get, suc, OnSome, IfOk, IsTrue, MatchBool};
+ghost use Rattle.std.specs.Prelude.{◌≡◌, ◌↔◌, ◌<◌, length, slice_get, suc, OnSome, IfOk, IfErr, IsTrue, MatchBool};
 ghost use Rattle.std.specs.Option.{option_copied};
 ghost use Rattle.apex_lexer.specs.declared.token.TokenKind.TheVariants.{Sign as IsSign, Keyword as IsWord};
 ghost use Rattle.token_grammar.specs.Notation as notation;
-ghost use Rattle.token_grammar.specs.Readings.{Told, Passed, fault_of};
+ghost use Rattle.token_grammar.specs.Readings.{Told, Passed, IsNoMemory, fault_of};
 ghost use Rattle.token_grammar.specs.Tokens as grammar;
 
 use crate::fault::{ParseFault, ParseWord, Stop};
@@ -135,6 +135,7 @@ pub fn open_sign(
 ) -> Result<(usize, usize), Stop>
     ensures told { Told tokens.now (grammar.open_sign sign room) at result }
     ensures inside { IfOk result (λ r. room ≡ suc r.0) }
+    ensures memory { IfErr result (λ stop. IsNoMemory stop → ⊥) }
 {
     let behind = pass_sign(tokens, at, sign)?;
     if room == 0 {
@@ -152,6 +153,7 @@ pub fn open_word(
 ) -> Result<(usize, usize), Stop>
     ensures told { Told tokens.now (grammar.open_word word room) at result }
     ensures inside { IfOk result (λ r. room ≡ suc r.0) }
+    ensures memory { IfErr result (λ stop. IsNoMemory stop → ⊥) }
 {
     let behind = pass_word(tokens, at, word)?;
     if room == 0 {

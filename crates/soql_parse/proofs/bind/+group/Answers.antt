@@ -1,6 +1,6 @@
-use Rattle.token_grammar.proofs.Chain.{next, halt, raised, skip_more}
+use Rattle.token_grammar.proofs.Chain.{next, halt, raised, skip_more, last, last_stuck}
 use Rattle.token_grammar.proofs.Moves.{nearer}
-use Rattle.soql_parse.proofs.Groups.{inner_moves, group_at, omega_room, last, last_stuck}
+use Rattle.soql_parse.proofs.Groups.{inner_moves, group_at, omega_room}
 use Rattle.soql_parse.proofs.bind.+group.Goals as goal
 
 pub group-returns-in_err-behind : goal.group-returns-in_err-behind
