@@ -1,2 +1,4 @@
 mod Pairs
 mod Looks
+pub mod Moving
+mod Rooms

@@ -1,5 +1,6 @@
--- The grammar of expressions (docs/language.md, "Expressions"), in the notation of token_grammar.
-use Rattle.std.specs.Prelude.{◌≡◌, ◌⊎◌, ◌+◌, ◌||◌, ℕ, zero, suc, List, [], ◌∷◌, ◌++◌, Bool, true, false, Option, Some, None, IsSome, bytes_eq, codes, slice_get}
+-- The grammar of expressions (docs/language.md, "Expressions"), in the notation of token_grammar. Queries in brackets
+-- are those of soql_parse, with expressions for their binds.
+use Rattle.std.specs.Prelude.{◌≡◌, ◌⊎◌, ◌+◌, ◌||◌, leb, ℕ, zero, suc, List, [], ◌∷◌, ◌++◌, Bool, true, false, Option, Some, None, IsSome, bytes_eq, codes, slice_get}
 use Rattle.apex_text.specs.Fold.{folded}
 use Rattle.apex_text.specs.declared.place.Span.{Span}
 use Rattle.apex_lexer.specs.declared.token.Token.{Token}
@@ -10,8 +11,11 @@ use Rattle.apex_lexer.specs.declared.token.Sign.TheVariants.{Assign as AssignSig
 use Rattle.apex_lexer.specs.declared.token.TokenKind.{TokenKind}
 use Rattle.apex_lexer.specs.declared.token.TokenKind.TheVariants.{Name as NameToken, Keyword as IsWord, Sign as IsSign, Integer as IntegerToken, Long as LongToken, Decimal as DecimalToken, Quoted}
 use Rattle.apex_syntax.specs.declared.word.Word.{Word}
+use Rattle.apex_syntax.specs.declared.query.BindTree.{BindTree}
+use Rattle.apex_syntax.specs.declared.query.BindTree.TheVariants.{Expr as Bound}
 use Rattle.apex_syntax.specs.declared.query.NumberTree.{NumberTree}
 use Rattle.apex_syntax.specs.declared.query.NumberTree.TheVariants.{Integer, Long, Decimal}
+use Rattle.apex_syntax.specs.declared.query.QueryTree.{QueryTree}
 use Rattle.apex_syntax.specs.declared.expr.TypeTree.{TypeTree}
 use Rattle.apex_syntax.specs.declared.expr.Literal.TheVariants.{Number, Text, Bool as Truth, Null as Nothing}
 use Rattle.apex_syntax.specs.declared.expr.PrefixOp.{PrefixOp}
@@ -22,7 +26,7 @@ use Rattle.apex_syntax.specs.declared.expr.AssignOp.{AssignOp}
 use Rattle.apex_syntax.specs.declared.expr.AssignOp.TheVariants.{Assign as Sets, Add, Subtract, Multiply, Divide}
 use Rattle.apex_syntax.specs.declared.expr.StepOp.TheVariants.{Increment, Decrement}
 use Rattle.apex_syntax.specs.declared.expr.Expr.{Expr}
-use Rattle.apex_syntax.specs.declared.expr.Expr.TheVariants.{Literal, This, Super, Name, Call, Paren, New, Postfix, Prefix, Cast, Chain, Conditional, Assign}
+use Rattle.apex_syntax.specs.declared.expr.Expr.TheVariants.{Literal, This, Super, Name, Call, Paren, New, Query, Postfix, Prefix, Cast, Chain, Conditional, Assign}
 use Rattle.apex_syntax.specs.declared.expr.Operand.{Operand}
 use Rattle.apex_syntax.specs.declared.expr.PostfixPart.{PostfixPart}
 use Rattle.apex_syntax.specs.declared.expr.PostfixPart.TheVariants.{Field, Call as CallPart, Index, Step}
@@ -35,7 +39,9 @@ use Rattle.token_grammar.specs.declared.read.Names.TheVariants.{InCode, AllWords
 use Rattle.token_grammar.specs.Notation.{Rule, Give, Refuse, Here, Since, Take, Then, Choose, Many, Test, kind_at}
 use Rattle.token_grammar.specs.Tokens.{sign, word, name, next_sign, next_word, next_name, is_name, open_sign, optional, refuse_here}
 use Rattle.token_grammar.specs.Literals.{literal_bytes}
+use Rattle.soql_parse.specs.Queries.{query}
 use Rattle.apex_parse_expr.specs.declared.part.Part.{Part}
+use Rattle.apex_parse_expr.specs.declared.part.Branches.{Branches}
 use Rattle.apex_parse_expr.specs.declared.part.Level.{Level}
 use Rattle.apex_parse_expr.specs.declared.part.Level.TheVariants.{Or as OrLevel, And as AndLevel, Equal as EqualLevel, Order as OrderLevel, Sum as SumLevel, Product as ProductLevel}
 use Rattle.apex_parse_expr.specs.Types.{type, deeper_type, IsType, IsDeepType}
@@ -150,11 +156,17 @@ abbrev pub new_expr : ℕ → Rule Expr → Rule TypeTree → Rule Expr
 new_expr room e t =
     Then Here (λ i. Then (word NewWord) (λ _. Then t (λ ty. Then (new_part room e) (λ p. Then (Since i) (λ s. Give (New s ty p))))))
 
-abbrev pub primary : ℕ → Rule Expr → Rule TypeTree → Rule Expr
-primary room e t =
+-- `q` reads a query in a form that is opened
+abbrev pub bracketed : ℕ → Rule QueryTree → Rule Expr
+bracketed room q =
+    Then Here (λ i. Then (open_sign OpenBracket room) (λ _. Then q (λ x. Then (sign CloseBracket) (λ _. Then (Since i) (λ s. Give (Query s x))))))
+
+abbrev pub primary : ℕ → Rule Expr → Rule QueryTree → Rule TypeTree → Rule Expr
+primary room e q t =
     Choose (next_word NewWord) (new_expr room e t)
     (Choose (next_sign OpenParen) (paren room e)
-    (Choose (next_name InCode) (named room e) simple))
+    (Choose (next_sign OpenBracket) (bracketed room q)
+    (Choose (next_name InCode) (named room e) simple)))
 
 -- ---- postfix expressions
 
@@ -210,10 +222,18 @@ abbrev pub postfixed : Span → Expr → List PostfixPart → Expr
 postfixed s x [] = x
 postfixed s x (p ∷ ps) = Postfix s x (p ∷ ps)
 
-abbrev pub postfix : ℕ → Rule Expr → Rule TypeTree → Rule Expr
-postfix room e t =
-    Then Here (λ i. Then (primary room e t) (λ x. Then (parts room e) (λ ps. Then (stepped ps) (λ qs. Then (Since i) (λ s.
+abbrev pub postfix : ℕ → Rule Expr → Rule QueryTree → Rule TypeTree → Rule Expr
+postfix room e q t =
+    Then Here (λ i. Then (primary room e q t) (λ x. Then (parts room e) (λ ps. Then (stepped ps) (λ qs. Then (Since i) (λ s.
     Give (postfixed s x qs))))))
+
+-- ---- binds of queries: a colon, and a postfix expression that begins with a name and ends without `++` and `--`
+
+abbrev pub bound : ℕ → Rule Expr → Rule Expr
+bound room e = Then Here (λ i. Then (named room e) (λ x. Then (parts room e) (λ ps. Then (Since i) (λ s. Give (postfixed s x ps)))))
+
+abbrev pub bind_with : ℕ → Rule Expr → Rule BindTree
+bind_with room e = Then Here (λ i. Then (sign Colon) (λ _. Then (bound room e) (λ x. Then (Since i) (λ s. Give (Bound s x)))))
 
 -- ---- prefix operators and casts; `u` reads an operand in a form that is opened
 
@@ -322,13 +342,13 @@ cast room u t =
     Then Here (λ i. Then (open_sign OpenParen room) (λ _. Then t (λ ty. Then (sign CloseParen) (λ _. Then u (λ x. Then (Since i) (λ s.
     Give (record { tree = Cast s ty x.tree; target = false })))))))
 
-abbrev pub target : ℕ → Rule Expr → Rule TypeTree → Rule Part
-target room e t = Then (postfix room e t) (λ x. Give (record { tree = x; target = true }))
+abbrev pub target : ℕ → Rule Expr → Rule QueryTree → Rule TypeTree → Rule Part
+target room e q t = Then (postfix room e q t) (λ x. Give (record { tree = x; target = true }))
 
--- an operand: `e` and `u` read in a form that is opened
-abbrev pub unary_with : ℕ → Rule Expr → Rule Part → Rule Part
-unary_with room e u =
-    Choose next_prefix (prefixed room u) (Choose (next_cast room) (cast room u (deeper_type room)) (target room e (type room)))
+-- an operand: `e`, `q` and `u` read in a form that is opened
+abbrev pub unary_with : ℕ → Rule Expr → Rule QueryTree → Rule Part → Rule Part
+unary_with room e q u =
+    Choose next_prefix (prefixed room u) (Choose (next_cast room) (cast room u (deeper_type room)) (target room e q (type room)))
 
 -- ---- binary operators
 
@@ -409,11 +429,28 @@ operand EqualLevel u = orders u
 operand AndLevel u = equalities u
 operand OrLevel u = conjunctions u
 
+-- how loosely a level binds
+abbrev pub rank : Level → ℕ
+rank ProductLevel = 0
+rank SumLevel = 1
+rank OrderLevel = 2
+rank EqualLevel = 3
+rank AndLevel = 4
+rank OrLevel = 5
+
 -- ---- expressions
+
+-- the first rule where the test holds
+abbrev pub pick : {A : Type 0} → Bool → Rule A → Rule A → Rule A
+pick true a b = a
+pick false a b = b
+
+abbrev pub branches : Rule Expr → Rule Branches
+branches e = Then e (λ a. Then (sign Colon) (λ _. Then e (λ b. Give (record { one = a; other = b }))))
 
 abbrev pub conditional : ℕ → Rule Expr → ℕ → Expr → Rule Expr
 conditional room e i x =
-    Then (open_sign Question room) (λ _. Then e (λ a. Then (sign Colon) (λ _. Then e (λ b. Then (Since i) (λ s. Give (Conditional s x a b))))))
+    Then (open_sign Question room) (λ _. Then (branches e) (λ b. Then (Since i) (λ s. Give (Conditional s x b.one b.other))))
 
 abbrev pub assign_kind : TokenKind → Option AssignOp
 assign_kind (IsSign AssignSign) = Some Sets
@@ -449,16 +486,22 @@ expr_rest room e i x =
 abbrev pub expr_with : ℕ → Rule Expr → Rule Part → Rule Expr
 expr_with room e u = Then Here (λ i. Then (disjunctions u) (λ x. expr_rest room e i x))
 
-abbrev mutual
+-- An expression, an operand and a bind, where so many forms may be opened. `binds room inside` is a bind where `inside`
+-- more forms may be open, and never more than `room`. All three are by recursion on `room`.
+unfoldable mutual
   pub unary : ℕ → Rule Part
-  unary zero = unary_with zero (refuse_here TooDeep) (refuse_here TooDeep)
-  unary (suc room) = unary_with (suc room) (expr room) (unary room)
+  unary zero = unary_with zero (refuse_here TooDeep) (refuse_here TooDeep) (refuse_here TooDeep)
+  unary (suc room) = unary_with (suc room) (expr room) (query (binds room) room) (unary room)
 
   pub expr : ℕ → Rule Expr
-  expr zero = expr_with zero (refuse_here TooDeep) (unary_with zero (refuse_here TooDeep) (refuse_here TooDeep))
-  expr (suc room) = expr_with (suc room) (expr room) (unary_with (suc room) (expr room) (unary room))
+  expr zero = expr_with zero (refuse_here TooDeep) (unary_with zero (refuse_here TooDeep) (refuse_here TooDeep) (refuse_here TooDeep))
+  expr (suc room) = expr_with (suc room) (expr room) (unary_with (suc room) (expr room) (query (binds room) room) (unary room))
 
--- an expression and an operand in a form that is opened, where so many could be opened before that
+  pub binds : ℕ → ℕ → Rule BindTree
+  binds zero inside = bind_with zero (refuse_here TooDeep)
+  binds (suc room) inside = pick (leb (suc room) inside) (bind_with (suc room) (expr room)) (binds room inside)
+
+-- an expression, an operand and a query in a form that is opened, where so many could be opened before that
 abbrev pub deeper_expr : ℕ → Rule Expr
 deeper_expr zero = refuse_here TooDeep
 deeper_expr (suc room) = expr room
@@ -466,3 +509,7 @@ deeper_expr (suc room) = expr room
 abbrev pub deeper_unary : ℕ → Rule Part
 deeper_unary zero = refuse_here TooDeep
 deeper_unary (suc room) = unary room
+
+abbrev pub deeper_query : ℕ → Rule QueryTree
+deeper_query zero = refuse_here TooDeep
+deeper_query (suc room) = query (binds room) room

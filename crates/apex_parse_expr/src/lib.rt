@@ -1,21 +1,30 @@
-//! What expressions are read from: types, casts, and the readings of single tokens.
+//! The parser of expressions, with the types and the queries in brackets that stand in them.
 //!
-//! The grammar of expressions stands in `specs/Exprs.antt`. Its parser isn't built yet; the calls here read the parts
-//! of it that hold no expression.
+//! A function that reads a form takes calls that read an expression, an operand or a query inside of it; the functions
+//! of `read` hand them in.
 #![tactic(auto)]
 
+mod args;
 mod casts;
+mod levels;
+mod news;
 mod part;
+mod postfix;
+mod read;
+mod rule;
 mod single;
 mod types;
+mod unary;
+mod whole;
 
 pub use casts::is_cast;
 pub use part::{Level, Part};
-pub use single::{
-    is_assign, is_fields, is_op, is_part, is_prefix, is_step, op, open_assign, open_prefix, simple,
-    step,
-};
-pub use types::{deeper_type, type_tree};
+pub use read::{args_within, expr, expr_within};
+pub use types::{member, type_tree};
 
+#[cfg(test)]
+mod expr_tests;
+#[cfg(test)]
+mod shown;
 #[cfg(test)]
 mod tests;

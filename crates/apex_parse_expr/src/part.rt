@@ -9,6 +9,13 @@ pub struct Part {
     pub target: bool,
 }
 
+/// What stands behind the `?` of a conditional expression.
+#[derive(Debug, Drop)]
+pub struct Branches {
+    pub one: Expr,
+    pub other: Expr,
+}
+
 /// The binary operators of one precedence, the loosest first.
 #[derive(Clone, Copy, Debug, PartialEq, Eq, Drop)]
 pub enum Level {

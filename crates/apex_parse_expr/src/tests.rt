@@ -1,49 +1,15 @@
 // Types with their trees, or where their reading stops, as the rules of docs/language.md give them. Behind a tree
 // stands what follows the type, where that isn't the name `x`.
 
-use crate::{Level, is_cast, is_op, op, simple, type_tree};
+use crate::shown::{add, add_type, fault_shown};
+use crate::single::{is_op, op, simple};
+use crate::{Level, is_cast, type_tree};
 use apex_lexer::lex;
-use apex_syntax::{BinaryOp, Expr, Literal, TypeTree, Word};
+use apex_syntax::{BinaryOp, Expr, Literal};
 use apex_text::Span;
 use std::alloc::{AllocError, Global};
 use std::test::Fail;
-use token_grammar::{ParseFault, Stop, fault_of};
-
-fn add(out: &mut String, text: &str) -> Result<(), AllocError> {
-    out.push_str(text)?;
-    Ok(())
-}
-
-fn add_word(out: &mut String, word: &Word) -> Result<(), AllocError> {
-    add(out, str::from_utf8(word.name.bytes()).unwrap_or("?"))
-}
-
-#[cycle(types)]
-fn add_types(out: &mut String, types: &[TypeTree]) -> Result<(), AllocError> {
-    for (i, inner) in types.iter().enumerate() {
-        add(out, if i == 0 { "<" } else { "," })?;
-        add_type(out, inner)?;
-    }
-    if types.is_empty() {
-        Ok(())
-    } else {
-        add(out, ">")
-    }
-}
-
-#[cycle(types)]
-fn add_type(out: &mut String, tree: &TypeTree) -> Result<(), AllocError> {
-    add_word(out, &tree.name)?;
-    if let Some(member) = &tree.member {
-        add(out, ".")?;
-        add_word(out, member)?;
-    }
-    add_types(out, tree.args.as_slice())?;
-    for _ in 0..tree.arrays {
-        add(out, "[]")?;
-    }
-    Ok(())
-}
+use token_grammar::{Stop, fault_of};
 
 // The tree of a type, or its fault.
 fn type_shown(alloc: Global, text: &str) -> Result<String, AllocError> {
@@ -64,13 +30,7 @@ fn type_shown(alloc: Global, text: &str) -> Result<String, AllocError> {
             }
             Ok(out)
         }
-        Err(stop) => match fault_of(tokens.as_slice(), stop) {
-            ParseFault::Wrong(word, span) => {
-                let Span { from, to } = span;
-                format!(in alloc; "{word} {from}-{to}")
-            }
-            ParseFault::NoMemory => Err(AllocError),
-        },
+        Err(stop) => fault_shown(alloc, fault_of(tokens.as_slice(), stop)),
     }
 }
 

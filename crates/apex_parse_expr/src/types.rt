@@ -10,8 +10,8 @@ use apex_syntax::{TypeTree, Word};
 use std::alloc::Global;
 use token_grammar::{Names, ParseWord, Stop, is_sign, name, open_sign, pass_sign, span_of};
 
-// The name behind a dot, where a dot follows.
-fn member(alloc: Global, tokens: &[Token], at: usize) -> Result<(Option<Word>, usize), Stop>
+/// The name behind a dot, where a dot follows.
+pub fn member(alloc: Global, tokens: &[Token], at: usize) -> Result<(Option<Word>, usize), Stop>
     ensures { Told tokens.now grammar.member at result }
 {
     if is_sign(tokens, at, Sign::Dot) {

@@ -108,8 +108,8 @@ pub enum Expr {
     Paren(Span, Boxed<Expr>),
     /// `new type` and what stands behind it.
     New(Span, TypeTree, NewPart),
-    /// A query in brackets, and the expressions of its binds in the order of the text.
-    Query(Span, Boxed<QueryTree>, Items<Expr>),
+    /// A query in brackets; the span has them.
+    Query(Span, Boxed<QueryTree>),
     /// A primary expression with one or more parts behind it.
     Postfix(Span, Boxed<Expr>, Items<PostfixPart>),
     Prefix(Span, PrefixOp, Boxed<Expr>),

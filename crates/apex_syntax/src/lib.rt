@@ -1,6 +1,6 @@
 //! The trees of Apex source.
 //!
-//! So far they are those of queries, expressions and statements, with their spans, and in `tree` those of small
+//! They are those of queries, expressions, statements and units, with their spans, and in `tree` those of small
 //! blocks: declarations of Integers and `System.debug` over whole numbers (docs/language.md).
 #![tactic(auto)]
 
@@ -9,6 +9,7 @@ mod query;
 mod stmt;
 pub mod tree;
 pub mod typed;
+mod unit;
 mod word;
 
 pub use expr::{
@@ -16,9 +17,13 @@ pub use expr::{
     PrefixOp, StepOp, TypeTree,
 };
 pub use query::{
-    BindTree, CompareOp, CondTree, CountTree, KeyTree, ListTree, NumberTree, PathTree, QueryTree,
-    SelTree, SelectTree, ValueTree,
+    BindRange, BindTree, CompareOp, CondTree, CountTree, KeyTree, ListTree, NumberTree, PathTree,
+    QueryTree, SelTree, SelectTree, ValueTree,
 };
 pub use stmt::{Body, Catch, Declarator, DmlOp, ForStart, Stmt};
 pub use tree::{Link, Op};
+pub use unit::{
+    ClassModifier, ClassTree, ClassWord, EventOp, EventTree, InterfaceTree, MemberModifier,
+    MemberTree, MemberWord, ParamTree, ResultTree, SignatureTree, TriggerTree, Unit,
+};
 pub use word::Word;

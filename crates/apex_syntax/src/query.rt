@@ -1,12 +1,13 @@
 // The trees of queries: one variant for each alternative of the grammar, and one field for each part.
 
+use crate::expr::Expr;
 use crate::word::Word;
 use apex_list::{Boxed, Items};
 use apex_text::Span;
 
 /// A query. Each tree's span goes from its first token to its last one: byte places from 0.
 #[derive(Debug, Drop)]
-#[cycle(query)]
+#[cycle(expr)]
 pub struct QueryTree {
     pub span: Span,
     pub select: SelectTree,
@@ -24,7 +25,7 @@ pub struct QueryTree {
 
 /// What a query selects.
 #[derive(Debug, Drop)]
-#[cycle(query)]
+#[cycle(expr)]
 pub enum SelectTree {
     /// `COUNT()`
     Count(Span),
@@ -34,7 +35,7 @@ pub enum SelectTree {
 
 /// An item behind `SELECT`.
 #[derive(Debug, Drop)]
-#[cycle(query)]
+#[cycle(expr)]
 pub enum SelTree {
     Path(PathTree),
     /// A query in parentheses; the span has them.
@@ -50,6 +51,7 @@ pub struct PathTree {
 
 /// A condition.
 #[derive(Debug, Drop)]
+#[cycle(expr)]
 pub enum CondTree {
     /// Two or more conditions with `AND` between them.
     All(Span, Items<CondTree>),
@@ -86,6 +88,7 @@ pub enum CompareOp {
 
 /// A value of a condition.
 #[derive(Debug, Drop)]
+#[cycle(expr)]
 pub enum ValueTree {
     /// A number, and whether a `-` stands before it.
     Number(Span, bool, NumberTree),
@@ -111,6 +114,7 @@ pub enum NumberTree {
 
 /// What stands behind `IN`.
 #[derive(Debug, Drop)]
+#[cycle(expr)]
 pub enum ListTree {
     /// One or more values in parentheses; the span has them.
     Values(Span, Items<ValueTree>),
@@ -130,15 +134,26 @@ pub struct KeyTree {
 
 /// What stands behind `LIMIT` and `OFFSET`.
 #[derive(Debug, Drop)]
+#[cycle(expr)]
 pub enum CountTree {
     /// An Integer literal.
     Whole(Span, i32),
     Bind(BindTree),
 }
 
-/// A bind, kept as a range of tokens: it begins with the colon, and its expression stands behind that.
+/// A bind: a colon and an expression.
+#[derive(Debug, Drop)]
+#[cycle(expr)]
+pub enum BindTree {
+    /// Its tokens, where they are kept as they are.
+    Tokens(BindRange),
+    /// Its expression; the span has the colon.
+    Expr(Span, Boxed<Expr>),
+}
+
+/// The tokens of a bind: the first is the colon, and the expression stands behind that.
 #[derive(Clone, Copy, Debug, PartialEq, Eq, Drop)]
-pub struct BindTree {
+pub struct BindRange {
     pub span: Span,
     /// The place of the colon among the tokens, from 0.
     pub from: usize,

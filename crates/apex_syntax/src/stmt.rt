@@ -21,21 +21,21 @@ pub enum Stmt {
     /// `;`
     Empty(Span),
     Declare(Span, TypeTree, Items<Declarator>),
-    Expr(Span, Expr),
+    Expr(Span, Boxed<Expr>),
     /// A condition, a statement, and the one behind `else`.
-    If(Span, Expr, Boxed<Stmt>, Option<Boxed<Stmt>>),
-    While(Span, Expr, Boxed<Stmt>),
-    Do(Span, Boxed<Stmt>, Expr),
+    If(Span, Boxed<Expr>, Boxed<Stmt>, Option<Boxed<Stmt>>),
+    While(Span, Boxed<Expr>, Boxed<Stmt>),
+    Do(Span, Boxed<Stmt>, Boxed<Expr>),
     /// What it begins with, its condition, its step and its statement.
-    For(Span, ForStart, Option<Expr>, Option<Expr>, Boxed<Stmt>),
+    For(Span, ForStart, Option<Boxed<Expr>>, Option<Boxed<Expr>>, Boxed<Stmt>),
     /// `for (type name : list) stmt`
-    ForEach(Span, TypeTree, Word, Expr, Boxed<Stmt>),
-    Return(Span, Option<Expr>),
+    ForEach(Span, TypeTree, Word, Boxed<Expr>, Boxed<Stmt>),
+    Return(Span, Option<Boxed<Expr>>),
     Break(Span),
     Continue(Span),
-    Throw(Span, Expr),
+    Throw(Span, Boxed<Expr>),
     Try(Span, Body, Items<Catch>, Option<Body>),
-    Dml(Span, DmlOp, Expr),
+    Dml(Span, DmlOp, Boxed<Expr>),
     /// `this(..);`
     This(Span, Items<Expr>),
     /// `super(..);`
@@ -46,7 +46,7 @@ pub enum Stmt {
 #[derive(Debug, Drop)]
 pub struct Declarator {
     pub name: Word,
-    pub value: Option<Expr>,
+    pub value: Option<Boxed<Expr>>,
 }
 
 /// What stands before the first `;` of a `for`.
@@ -55,7 +55,7 @@ pub enum ForStart {
     Nothing,
     /// Each name has a value.
     Declare(TypeTree, Items<Declarator>),
-    Expr(Expr),
+    Expr(Boxed<Expr>),
 }
 
 /// `catch (class name) { .. }`

@@ -1,11 +1,9 @@
 -- Groups take tokens.
-use Rattle.std.specs.Prelude.{◌≡◌, ◌-◌, ◌<◌, ℕ, zero, suc, List, Result, Ok, Err}
+use Rattle.std.specs.Prelude.{◌≡◌, ◌-◌, ◌<◌, ℕ, zero, suc, List, Result}
 use Rattle.std.proofs.Common.{arith, inl, inr, sym, subst}
 use Rattle.apex_lexer.specs.declared.token.Token.{Token}
-use Rattle.apex_lexer.specs.declared.token.TokenKind.{TokenKind}
 use Rattle.token_grammar.specs.declared.fault.Stop.{Stop}
-use Rattle.token_grammar.specs.Notation.{Is}
-use Rattle.token_grammar.specs.Readings.{Told, Passed}
+use Rattle.token_grammar.specs.Readings.{Told}
 use Rattle.token_grammar.proofs.Moves.{Moves}
 use Rattle.soql_parse.specs.Queries.{opener, group, group_with, inner, bind_part}
 

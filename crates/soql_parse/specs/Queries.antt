@@ -31,6 +31,7 @@ use Rattle.apex_syntax.specs.declared.query.KeyTree.{KeyTree}
 use Rattle.apex_syntax.specs.declared.query.CountTree.{CountTree}
 use Rattle.apex_syntax.specs.declared.query.CountTree.TheVariants.{Whole, Bind as BoundCount}
 use Rattle.apex_syntax.specs.declared.query.BindTree.{BindTree}
+use Rattle.apex_syntax.specs.declared.query.BindTree.TheVariants.{Tokens}
 use Rattle.soql_parse.specs.declared.select.FromPart.{FromPart}
 use Rattle.token_grammar.specs.declared.fault.ParseWord.TheVariants.{TooDeep, MixedAndOr, LockedOrder, TooManyLevels}
 use Rattle.token_grammar.specs.declared.read.Names.TheVariants.{InQuery, InCode, AllWords}
@@ -52,7 +53,7 @@ names start x = Then (links start 5) (λ xs. Give (x ∷ xs))
 abbrev pub path : Rule PathTree
 path = Then Here (λ i. Then (name InQuery) (λ x. Then (names i x) (λ xs. Then (Since i) (λ s. Give (record { span = s; names = xs })))))
 
--- ---- binds: a colon, a name, and names behind dots and groups in any number
+-- ---- binds that are kept as their tokens: a colon, a name, and names behind dots and groups in any number
 
 -- the sign that closes what this one opens
 abbrev pub closing : TokenKind → Option Sign
@@ -125,12 +126,12 @@ next_part tokens at = goes_on (kind_at tokens at) ≡ true
 abbrev pub bind_part : ℕ → Rule (Unit {0})
 bind_part room = Choose (next_sign Dot) (Then (sign Dot) (λ _. Then (name AllWords) (λ _. Give tt))) (group room)
 
-abbrev pub bind : ℕ → Rule BindTree
-bind room =
+abbrev pub range : ℕ → Rule BindTree
+range room =
     Then Here (λ i. Then (sign Colon) (λ _. Then (name InCode) (λ _. Then (skip next_part (bind_part room)) (λ _.
-    Then Here (λ j. Then (Since i) (λ s. Give (record { span = s; from = i; to = j; room = room })))))))
+    Then Here (λ j. Then (Since i) (λ s. Give (Tokens (record { span = s; from = i; to = j; room = room }))))))))
 
--- ---- values
+-- ---- values; `bind` reads a bind where so many forms may be open inside of it
 
 abbrev pub number_kind : TokenKind → Option NumberTree
 number_kind (IntegerToken n) = Some (Integer n)
@@ -165,27 +166,27 @@ literal = Take literal_of
 abbrev pub negative : Rule ValueTree
 negative = Then Here (λ i. Then (sign Minus) (λ _. Then number (λ x. Then (Since i) (λ s. Give (Number s true x)))))
 
-abbrev pub bound : ℕ → Rule ValueTree
-bound room = Then (bind room) (λ b. Give (Bind b))
+abbrev pub bound : (ℕ → Rule BindTree) → ℕ → Rule ValueTree
+bound bind room = Then (bind room) (λ b. Give (Bind b))
 
-abbrev pub value : ℕ → Rule ValueTree
-value room =
-    Choose (next_sign Colon) (bound room)
+abbrev pub value : (ℕ → Rule BindTree) → ℕ → Rule ValueTree
+value bind room =
+    Choose (next_sign Colon) (bound bind room)
     (Choose (next_sign Minus) negative literal)
 
-abbrev pub comma_value : ℕ → Rule ValueTree
-comma_value room = Then (sign Comma) (λ _. value room)
+abbrev pub comma_value : (ℕ → Rule BindTree) → ℕ → Rule ValueTree
+comma_value bind room = Then (sign Comma) (λ _. value bind room)
 
-abbrev pub more_values : ℕ → ValueTree → Rule (List ValueTree)
-more_values room x = Then (Many (next_sign Comma) (comma_value room)) (λ xs. Give (x ∷ xs))
+abbrev pub more_values : (ℕ → Rule BindTree) → ℕ → ValueTree → Rule (List ValueTree)
+more_values bind room x = Then (Many (next_sign Comma) (comma_value bind room)) (λ xs. Give (x ∷ xs))
 
-abbrev pub values : ℕ → Rule ListTree
-values room =
-    Then Here (λ i. Then (open_sign OpenParen room) (λ inside. Then (value inside) (λ x. Then (more_values inside x) (λ xs.
+abbrev pub values : (ℕ → Rule BindTree) → ℕ → Rule ListTree
+values bind room =
+    Then Here (λ i. Then (open_sign OpenParen room) (λ inside. Then (value bind inside) (λ x. Then (more_values bind inside x) (λ xs.
     Then (sign CloseParen) (λ _. Then (Since i) (λ s. Give (Values s xs)))))))
 
-abbrev pub list : ℕ → Rule ListTree
-list room = Choose (next_sign Colon) (Then (bind room) (λ b. Give (BoundList b))) (values room)
+abbrev pub list : (ℕ → Rule BindTree) → ℕ → Rule ListTree
+list bind room = Choose (next_sign Colon) (Then (bind room) (λ b. Give (BoundList b))) (values bind room)
 
 abbrev pub whole_kind : Span → TokenKind → Option CountTree
 whole_kind s (IntegerToken n) = Some (Whole s n)
@@ -197,8 +198,8 @@ whole_of t = whole_kind t.span t.kind
 abbrev pub whole : Rule CountTree
 whole = Take whole_of
 
-abbrev pub count : ℕ → Rule CountTree
-count room = Choose (next_sign Colon) (Then (bind room) (λ b. Give (BoundCount b))) whole
+abbrev pub count : (ℕ → Rule BindTree) → ℕ → Rule CountTree
+count bind room = Choose (next_sign Colon) (Then (bind room) (λ b. Give (BoundCount b))) whole
 
 -- ---- conditions
 
@@ -225,20 +226,20 @@ abbrev pub op : Rule CompareOp
 op = Choose (next_sign LessSign) less other_op
 
 -- what stands behind a path that began at a place
-abbrev pub not_within : ℕ → ℕ → PathTree → Rule CondTree
-not_within room i p = Then (word Not) (λ _. Then (word In) (λ _. Then (list room) (λ l. Then (Since i) (λ s. Give (Within s p true l)))))
+abbrev pub not_within : (ℕ → Rule BindTree) → ℕ → ℕ → PathTree → Rule CondTree
+not_within bind room i p = Then (word Not) (λ _. Then (word In) (λ _. Then (list bind room) (λ l. Then (Since i) (λ s. Give (Within s p true l)))))
 
-abbrev pub within : ℕ → ℕ → PathTree → Rule CondTree
-within room i p = Then (word In) (λ _. Then (list room) (λ l. Then (Since i) (λ s. Give (Within s p false l))))
+abbrev pub within : (ℕ → Rule BindTree) → ℕ → ℕ → PathTree → Rule CondTree
+within bind room i p = Then (word In) (λ _. Then (list bind room) (λ l. Then (Since i) (λ s. Give (Within s p false l))))
 
-abbrev pub compared : ℕ → ℕ → PathTree → Rule CondTree
-compared room i p = Then op (λ o. Then (value room) (λ v. Then (Since i) (λ s. Give (Compare s p o v))))
+abbrev pub compared : (ℕ → Rule BindTree) → ℕ → ℕ → PathTree → Rule CondTree
+compared bind room i p = Then op (λ o. Then (value bind room) (λ v. Then (Since i) (λ s. Give (Compare s p o v))))
 
-abbrev pub test_of : ℕ → ℕ → PathTree → Rule CondTree
-test_of room i p = Choose (next_word Not) (not_within room i p) (Choose (next_word In) (within room i p) (compared room i p))
+abbrev pub test_of : (ℕ → Rule BindTree) → ℕ → ℕ → PathTree → Rule CondTree
+test_of bind room i p = Choose (next_word Not) (not_within bind room i p) (Choose (next_word In) (within bind room i p) (compared bind room i p))
 
-abbrev pub simple : ℕ → Rule CondTree
-simple room = Then Here (λ i. Then path (λ p. test_of room i p))
+abbrev pub simple : (ℕ → Rule BindTree) → ℕ → Rule CondTree
+simple bind room = Then Here (λ i. Then path (λ p. test_of bind room i p))
 
 abbrev pub linked : Keyword → Rule CondTree → Rule CondTree
 linked link one = Then (word link) (λ _. one)
@@ -270,21 +271,21 @@ enclosed room deeper =
     Then Here (λ i. Then (open_sign OpenParen room) (λ _. Then (conds_of deeper) (λ c. Then (sign CloseParen) (λ _.
     Then (Since i) (λ s. Give (Paren s c))))))
 
-abbrev pub one_with : ℕ → Rule CondTree → Rule CondTree
-one_with room deeper =
-    Choose (next_word Not) (negation room deeper) (Choose (next_sign OpenParen) (enclosed room deeper) (simple room))
+abbrev pub one_with : (ℕ → Rule BindTree) → ℕ → Rule CondTree → Rule CondTree
+one_with bind room deeper =
+    Choose (next_word Not) (negation room deeper) (Choose (next_sign OpenParen) (enclosed room deeper) (simple bind room))
 
-abbrev pub one : ℕ → Rule CondTree
-one zero = one_with zero (refuse_here TooDeep)
-one (suc room) = one_with (suc room) (one room)
+abbrev pub one : (ℕ → Rule BindTree) → ℕ → Rule CondTree
+one bind zero = one_with bind zero (refuse_here TooDeep)
+one bind (suc room) = one_with bind (suc room) (one bind room)
 
 -- a condition in a form that is opened, where so many could be opened before that
-abbrev pub deeper_one : ℕ → Rule CondTree
-deeper_one zero = refuse_here TooDeep
-deeper_one (suc room) = one room
+abbrev pub deeper_one : (ℕ → Rule BindTree) → ℕ → Rule CondTree
+deeper_one bind zero = refuse_here TooDeep
+deeper_one bind (suc room) = one bind room
 
-abbrev pub cond : ℕ → Rule CondTree
-cond room = conds_of (one room)
+abbrev pub cond : (ℕ → Rule BindTree) → ℕ → Rule CondTree
+cond bind room = conds_of (one bind room)
 
 -- ---- orders
 
@@ -318,12 +319,12 @@ keys = Choose (next_word Order) ordered (Give [])
 
 -- ---- queries
 
-abbrev pub where_part : ℕ → Rule CondTree
-where_part room = Then (word Where) (λ _. cond room)
+abbrev pub where_part : (ℕ → Rule BindTree) → ℕ → Rule CondTree
+where_part bind room = Then (word Where) (λ _. cond bind room)
 
 -- LIMIT or OFFSET and a count
-abbrev pub count_part : Keyword → ℕ → Rule CountTree
-count_part k room = Then (word k) (λ _. count room)
+abbrev pub count_part : (ℕ → Rule BindTree) → Keyword → ℕ → Rule CountTree
+count_part bind k room = Then (word k) (λ _. count bind room)
 
 -- FOR UPDATE, which no order may stand before
 abbrev pub update : Bool → ℕ → Rule Bool
@@ -341,10 +342,10 @@ abbrev pub lock : Bool → Rule Bool
 lock has_order = Choose (next_word For) (locking has_order) (Give false)
 
 -- what stands behind FROM
-abbrev pub source : ℕ → Rule FromPart
-source room =
-    Then (name AllWords) (λ o. Then (optional (next_word Where) (where_part room)) (λ c. Then keys (λ k.
-    Then (optional (next_word Limit) (count_part Limit room)) (λ l. Then (optional (next_word Offset) (count_part Offset room)) (λ f.
+abbrev pub source : (ℕ → Rule BindTree) → ℕ → Rule FromPart
+source bind room =
+    Then (name AllWords) (λ o. Then (optional (next_word Where) (where_part bind room)) (λ c. Then keys (λ k.
+    Then (optional (next_word Limit) (count_part bind Limit room)) (λ l. Then (optional (next_word Offset) (count_part bind Offset room)) (λ f.
     Give (record { object = o; cond = c; keys = k; limit = l; offset = f }))))))
 
 abbrev pub query_tree : Span → SelectTree → FromPart → Bool → QueryTree
@@ -369,21 +370,21 @@ more_sub_items room x = Then (Many (next_sign Comma) (comma_sub_item room)) (λ 
 abbrev pub sub_items : ℕ → Rule SelectTree
 sub_items room = Then (sub_item room) (λ x. Then (more_sub_items room x) (λ xs. Give (Items xs)))
 
-abbrev pub sub_query : ℕ → Rule QueryTree
-sub_query room =
-    Then Here (λ i. Then (word Select) (λ _. Then (sub_items room) (λ sel. Then (word From) (λ _. Then (source room) (λ f.
+abbrev pub sub_query : (ℕ → Rule BindTree) → ℕ → Rule QueryTree
+sub_query bind room =
+    Then Here (λ i. Then (word Select) (λ _. Then (sub_items room) (λ sel. Then (word From) (λ _. Then (source bind room) (λ f.
     Then (Since i) (λ s. Give (query_tree s sel f false)))))))
 
-abbrev pub sub_paren : ℕ → Rule SelTree
-sub_paren room =
-    Then Here (λ i. Then (open_sign OpenParen room) (λ inside. Then (sub_query inside) (λ q. Then (sign CloseParen) (λ _.
+abbrev pub sub_paren : (ℕ → Rule BindTree) → ℕ → Rule SelTree
+sub_paren bind room =
+    Then Here (λ i. Then (open_sign OpenParen room) (λ inside. Then (sub_query bind inside) (λ q. Then (sign CloseParen) (λ _.
     Then (Since i) (λ s. Give (Query s q))))))
 
-abbrev pub item : ℕ → Rule SelTree
-item room = Choose (next_sign OpenParen) (sub_paren room) path_item
+abbrev pub item : (ℕ → Rule BindTree) → ℕ → Rule SelTree
+item bind room = Choose (next_sign OpenParen) (sub_paren bind room) path_item
 
-abbrev pub comma_item : ℕ → Rule SelTree
-comma_item room = Then (sign Comma) (λ _. item room)
+abbrev pub comma_item : (ℕ → Rule BindTree) → ℕ → Rule SelTree
+comma_item bind room = Then (sign Comma) (λ _. item bind room)
 
 -- COUNT is a name where no parenthesis follows
 abbrev pub next_count : Test
@@ -394,16 +395,16 @@ counting room =
     Then Here (λ i. Then (word Count) (λ _. Then (open_sign OpenParen room) (λ _. Then (sign CloseParen) (λ _.
     Then (Since i) (λ s. Give (CountsRows s))))))
 
-abbrev pub more_items : ℕ → SelTree → Rule (List SelTree)
-more_items room x = Then (Many (next_sign Comma) (comma_item room)) (λ xs. Give (x ∷ xs))
+abbrev pub more_items : (ℕ → Rule BindTree) → ℕ → SelTree → Rule (List SelTree)
+more_items bind room x = Then (Many (next_sign Comma) (comma_item bind room)) (λ xs. Give (x ∷ xs))
 
-abbrev pub items : ℕ → Rule SelectTree
-items room = Then (item room) (λ x. Then (more_items room x) (λ xs. Give (Items xs)))
+abbrev pub items : (ℕ → Rule BindTree) → ℕ → Rule SelectTree
+items bind room = Then (item bind room) (λ x. Then (more_items bind room x) (λ xs. Give (Items xs)))
 
-abbrev pub selection : ℕ → Rule SelectTree
-selection room = Choose next_count (counting room) (items room)
+abbrev pub selection : (ℕ → Rule BindTree) → ℕ → Rule SelectTree
+selection bind room = Choose next_count (counting room) (items bind room)
 
-abbrev pub query : ℕ → Rule QueryTree
-query room =
-    Then Here (λ i. Then (word Select) (λ _. Then (selection room) (λ sel. Then (word From) (λ _. Then (source room) (λ f.
+abbrev pub query : (ℕ → Rule BindTree) → ℕ → Rule QueryTree
+query bind room =
+    Then Here (λ i. Then (word Select) (λ _. Then (selection bind room) (λ sel. Then (word From) (λ _. Then (source bind room) (λ f.
     Then (lock (has_keys f.keys)) (λ u. Then (Since i) (λ s. Give (query_tree s sel f u))))))))

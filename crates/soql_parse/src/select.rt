@@ -4,15 +4,19 @@ ghost use Rattle.std.specs.Prelude.{◌≡◌, MatchBool, MatchResult};
 ghost use Rattle.token_grammar.specs.Readings.{Told, Found, RefusedBy};
 ghost use Rattle.token_grammar.specs.Tokens.{optional, next_word};
 ghost use Rattle.apex_lexer.specs.declared.token.Keyword.TheVariants as keywords;
+ghost use Rattle.soql_parse.specs.Readers.{BindsBy};
 ghost use Rattle.soql_parse.specs.Queries as grammar;
 
+use crate::binds::Binds;
 use crate::cond::cond;
 use crate::order::keys;
 use crate::path::path;
+use crate::ranges::range;
+use crate::rule::BindRule;
 use crate::value::count;
 use apex_lexer::{Keyword, Sign, Token};
 use apex_list::{Boxed, Items};
-use apex_syntax::{CondTree, CountTree, KeyTree, QueryTree, SelTree, SelectTree, Word};
+use apex_syntax::{BindTree, CondTree, CountTree, KeyTree, QueryTree, SelTree, SelectTree, Word};
 use apex_text::Span;
 use std::alloc::Global;
 use token_grammar::{
@@ -30,17 +34,20 @@ pub struct FromPart {
     pub offset: Option<CountTree>,
 }
 
-fn where_part(
+fn where_part<K: BindRule, B: Fn(usize, usize) -> Result<(BindTree, usize), Stop>>(
     alloc: Global,
     tokens: &[Token],
     at: usize,
     room: usize,
+    binds: &Binds<K, B>,
 ) -> Result<(Option<CondTree>, usize), Stop>
-    ensures { Told tokens.now (optional (next_word keywords.Where) (grammar.where_part room)) at result }
+    requires calls { B.IsAlwaysCallable binds.now.read }
+    requires told { BindsBy tokens.now (B.post binds.now.read) (K.rule binds.now.how) }
+    ensures { Told tokens.now (optional (next_word keywords.Where) (grammar.where_part (K.rule binds.now.how) room)) at result }
 {
     if is_word(tokens, at, Keyword::Where) {
         let behind = pass_word(tokens, at, Keyword::Where)?;
-        let (cond, end) = cond(alloc, tokens, behind, room)?;
+        let (cond, end) = cond(alloc, tokens, behind, room, binds)?;
         Ok((Some(cond), end))
     } else {
         Ok((None, at))
@@ -48,37 +55,43 @@ fn where_part(
 }
 
 // A count behind a keyword, where that is written.
-fn count_part(
+fn count_part<K: BindRule, B: Fn(usize, usize) -> Result<(BindTree, usize), Stop>>(
     alloc: Global,
     tokens: &[Token],
     at: usize,
     room: usize,
     word: Keyword,
+    binds: &Binds<K, B>,
 ) -> Result<(Option<CountTree>, usize), Stop>
-    ensures { Told tokens.now (optional (next_word word) (grammar.count_part word room)) at result }
+    requires calls { B.IsAlwaysCallable binds.now.read }
+    requires told { BindsBy tokens.now (B.post binds.now.read) (K.rule binds.now.how) }
+    ensures { Told tokens.now (optional (next_word word) (grammar.count_part (K.rule binds.now.how) word room)) at result }
 {
     if is_word(tokens, at, word) {
         let behind = pass_word(tokens, at, word)?;
-        let (count, end) = count(alloc, tokens, behind, room)?;
+        let (count, end) = count(alloc, tokens, behind, room, binds)?;
         Ok((Some(count), end))
     } else {
         Ok((None, at))
     }
 }
 
-fn source(
+fn source<K: BindRule, B: Fn(usize, usize) -> Result<(BindTree, usize), Stop>>(
     alloc: Global,
     tokens: &[Token],
     at: usize,
     room: usize,
+    binds: &Binds<K, B>,
 ) -> Result<(FromPart, usize), Stop>
-    ensures { Told tokens.now (grammar.source room) at result }
+    requires calls { B.IsAlwaysCallable binds.now.read }
+    requires told { BindsBy tokens.now (B.post binds.now.read) (K.rule binds.now.how) }
+    ensures { Told tokens.now (grammar.source (K.rule binds.now.how) room) at result }
 {
     let (object, behind) = name(alloc, tokens, at, Names::AllWords)?;
-    let (cond, behind) = where_part(alloc, tokens, behind, room)?;
+    let (cond, behind) = where_part(alloc, tokens, behind, room, binds)?;
     let (keys, behind) = keys(alloc, tokens, behind)?;
-    let (limit, behind) = count_part(alloc, tokens, behind, room, Keyword::Limit)?;
-    let (offset, end) = count_part(alloc, tokens, behind, room, Keyword::Offset)?;
+    let (limit, behind) = count_part(alloc, tokens, behind, room, Keyword::Limit, binds)?;
+    let (offset, end) = count_part(alloc, tokens, behind, room, Keyword::Offset, binds)?;
     Ok((
         FromPart {
             object,
@@ -189,91 +202,114 @@ fn sub_items(
     Ok((SelectTree::Items(items), end))
 }
 
-fn sub_query(
+fn sub_query<K: BindRule, B: Fn(usize, usize) -> Result<(BindTree, usize), Stop>>(
     alloc: Global,
     tokens: &[Token],
     at: usize,
     room: usize,
+    binds: &Binds<K, B>,
 ) -> Result<(QueryTree, usize), Stop>
-    ensures { Told tokens.now (grammar.sub_query room) at result }
+    requires calls { B.IsAlwaysCallable binds.now.read }
+    requires told { BindsBy tokens.now (B.post binds.now.read) (K.rule binds.now.how) }
+    ensures { Told tokens.now (grammar.sub_query (K.rule binds.now.how) room) at result }
 {
     let behind = pass_word(tokens, at, Keyword::Select)?;
     let (select, behind) = sub_items(alloc, tokens, behind, room)?;
     let behind = pass_word(tokens, behind, Keyword::From)?;
-    let (source, end) = source(alloc, tokens, behind, room)?;
+    let (source, end) = source(alloc, tokens, behind, room, binds)?;
     let span = span_of(tokens, at, end);
     Ok((query_tree(span, select, source, false), end))
 }
 
 // A subquery in its parentheses.
-fn sub_paren(
+fn sub_paren<K: BindRule, B: Fn(usize, usize) -> Result<(BindTree, usize), Stop>>(
     alloc: Global,
     tokens: &[Token],
     at: usize,
     room: usize,
+    binds: &Binds<K, B>,
 ) -> Result<(SelTree, usize), Stop>
-    ensures { Told tokens.now (grammar.sub_paren room) at result }
+    requires calls { B.IsAlwaysCallable binds.now.read }
+    requires told { BindsBy tokens.now (B.post binds.now.read) (K.rule binds.now.how) }
+    ensures { Told tokens.now (grammar.sub_paren (K.rule binds.now.how) room) at result }
 {
     let (inside, behind) = open_sign(tokens, at, Sign::OpenParen, room)?;
-    let (query, behind) = sub_query(alloc, tokens, behind, inside)?;
+    let (query, behind) = sub_query(alloc, tokens, behind, inside, binds)?;
     let end = pass_sign(tokens, behind, Sign::CloseParen)?;
     let span = span_of(tokens, at, end);
     Ok((SelTree::Query(span, Boxed::new(alloc, query)?), end))
 }
 
-fn item(alloc: Global, tokens: &[Token], at: usize, room: usize) -> Result<(SelTree, usize), Stop>
-    ensures { Told tokens.now (grammar.item room) at result }
+fn item<K: BindRule, B: Fn(usize, usize) -> Result<(BindTree, usize), Stop>>(
+    alloc: Global,
+    tokens: &[Token],
+    at: usize,
+    room: usize,
+    binds: &Binds<K, B>,
+) -> Result<(SelTree, usize), Stop>
+    requires calls { B.IsAlwaysCallable binds.now.read }
+    requires told { BindsBy tokens.now (B.post binds.now.read) (K.rule binds.now.how) }
+    ensures { Told tokens.now (grammar.item (K.rule binds.now.how) room) at result }
 {
     if is_sign(tokens, at, Sign::OpenParen) {
-        sub_paren(alloc, tokens, at, room)
+        sub_paren(alloc, tokens, at, room, binds)
     } else {
         path_item(alloc, tokens, at)
     }
 }
 
-fn comma_item(
+fn comma_item<K: BindRule, B: Fn(usize, usize) -> Result<(BindTree, usize), Stop>>(
     alloc: Global,
     tokens: &[Token],
     at: usize,
     room: usize,
+    binds: &Binds<K, B>,
 ) -> Result<(SelTree, usize), Stop>
-    ensures { Told tokens.now (grammar.comma_item room) at result }
+    requires calls { B.IsAlwaysCallable binds.now.read }
+    requires told { BindsBy tokens.now (B.post binds.now.read) (K.rule binds.now.how) }
+    ensures { Told tokens.now (grammar.comma_item (K.rule binds.now.how) room) at result }
 {
     let behind = pass_sign(tokens, at, Sign::Comma)?;
-    item(alloc, tokens, behind, room)
+    item(alloc, tokens, behind, room, binds)
 }
 
 // A first item and those behind it.
-fn more_items(
+fn more_items<K: BindRule, B: Fn(usize, usize) -> Result<(BindTree, usize), Stop>>(
     alloc: Global,
     tokens: &[Token],
     at: usize,
     room: usize,
     first: SelTree,
+    binds: &Binds<K, B>,
 ) -> Result<(Items<SelTree>, usize), Stop>
-    ensures { Told tokens.now (grammar.more_items room first) at result }
+    requires calls { B.IsAlwaysCallable binds.now.read }
+    requires told { BindsBy tokens.now (B.post binds.now.read) (K.rule binds.now.how) }
+    ensures { Told tokens.now (grammar.more_items (K.rule binds.now.how) room first) at result }
 {
     let mut items = Items::new(alloc);
     items.push(first)?;
     let mut end = at;
     'items: while is_sign(tokens, end, Sign::Comma) {
-        let (item, after) = comma_item(alloc, tokens, end, room)?;
+        let (item, after) = comma_item(alloc, tokens, end, room, binds)?;
         items.push(item)?;
         end = after;
     }
     Ok((items, end))
 }
 
-fn items(
+fn items<K: BindRule, B: Fn(usize, usize) -> Result<(BindTree, usize), Stop>>(
     alloc: Global,
     tokens: &[Token],
     at: usize,
     room: usize,
+    binds: &Binds<K, B>,
 ) -> Result<(SelectTree, usize), Stop>
-    ensures { Told tokens.now (grammar.items room) at result }
+    requires calls { B.IsAlwaysCallable binds.now.read }
+    requires told { BindsBy tokens.now (B.post binds.now.read) (K.rule binds.now.how) }
+    ensures { Told tokens.now (grammar.items (K.rule binds.now.how) room) at result }
 {
-    let (first, behind) = item(alloc, tokens, at, room)?;
-    let (items, end) = more_items(alloc, tokens, behind, room, first)?;
+    let (first, behind) = item(alloc, tokens, at, room, binds)?;
+    let (items, end) = more_items(alloc, tokens, behind, room, first, binds)?;
     Ok((SelectTree::Items(items), end))
 }
 
@@ -294,18 +330,21 @@ fn counting(tokens: &[Token], at: usize, room: usize) -> Result<(SelectTree, usi
     Ok((SelectTree::Count(span_of(tokens, at, end)), end))
 }
 
-fn selection(
+fn selection<K: BindRule, B: Fn(usize, usize) -> Result<(BindTree, usize), Stop>>(
     alloc: Global,
     tokens: &[Token],
     at: usize,
     room: usize,
+    binds: &Binds<K, B>,
 ) -> Result<(SelectTree, usize), Stop>
-    ensures { Told tokens.now (grammar.selection room) at result }
+    requires calls { B.IsAlwaysCallable binds.now.read }
+    requires told { BindsBy tokens.now (B.post binds.now.read) (K.rule binds.now.how) }
+    ensures { Told tokens.now (grammar.selection (K.rule binds.now.how) room) at result }
 {
     if is_count(tokens, at) {
         counting(tokens, at, room)
     } else {
-        items(alloc, tokens, at, room)
+        items(alloc, tokens, at, room, binds)
     }
 }
 
@@ -337,29 +376,45 @@ fn has_keys(source: &FromPart) -> bool
     !source.keys.is_empty()
 }
 
-/// A query that begins at a token, where `room` more forms may be open: its tree and the place behind it.
-pub fn query_within(
+/// A query that begins at a token, where `room` more forms may be open: its tree and the place behind it. `binds` reads
+/// its binds.
+pub fn query_within<K: BindRule, B: Fn(usize, usize) -> Result<(BindTree, usize), Stop>>(
     alloc: Global,
     tokens: &[Token],
     at: usize,
     room: usize,
+    binds: &Binds<K, B>,
 ) -> Result<(QueryTree, usize), Stop>
-    ensures { Told tokens.now (grammar.query room) at result }
+    requires calls { B.IsAlwaysCallable binds.now.read }
+    requires told { BindsBy tokens.now (B.post binds.now.read) (K.rule binds.now.how) }
+    ensures { Told tokens.now (grammar.query (K.rule binds.now.how) room) at result }
 {
     let behind = pass_word(tokens, at, Keyword::Select)?;
-    let (select, behind) = selection(alloc, tokens, behind, room)?;
+    let (select, behind) = selection(alloc, tokens, behind, room, binds)?;
     let behind = pass_word(tokens, behind, Keyword::From)?;
-    let (source, behind) = source(alloc, tokens, behind, room)?;
+    let (source, behind) = source(alloc, tokens, behind, room, binds)?;
     let (locked, end) = lock(tokens, behind, has_keys(&source))?;
     let span = span_of(tokens, at, end);
     Ok((query_tree(span, select, source, locked), end))
 }
 
-/// The query that begins at a token, and the place behind it. At most 64 forms are open at once.
+// Binds are kept as their tokens.
+#[derive(Drop)]
+struct Ranges;
+
+impl BindRule for Ranges {
+    ghost rule = { λ _ room. grammar.range room };
+}
+
+/// The query that begins at a token, and the place behind it. At most 64 forms are open at once. Its binds are kept as
+/// their tokens.
 pub fn query(alloc: Global, tokens: &[Token], at: usize) -> Result<(QueryTree, usize), ParseFault>
-    ensures { MatchResult result (λ r. Found tokens.now (grammar.query 64) at r.0 r.1) (λ e. RefusedBy tokens.now (grammar.query 64) at e) }
+    ensures { MatchResult result (λ r. Found tokens.now (grammar.query grammar.range 64) at r.0 r.1) (λ e. RefusedBy tokens.now (grammar.query grammar.range 64) at e) }
 {
-    match query_within(alloc, tokens, at, 64) {
+    let read = |place: usize, room: usize| -> Result<(BindTree, usize), Stop>
+        ensures { Told tokens.entry.now (grammar.range room) place result }
+    { range(alloc, tokens, place, room) };
+    match query_within(alloc, tokens, at, 64, &Binds { how: Ranges, read }) {
         Ok(read) => Ok(read),
         Err(stop) => Err(fault_of(tokens, stop)),
     }

@@ -29,9 +29,14 @@ fn add_path(out: &mut String, path: &PathTree) -> Result<(), AllocError> {
 
 // A bind with its tokens, counted from the bracket, and the room inside of it.
 fn add_bind(alloc: Global, out: &mut String, bind: &BindTree) -> Result<(), AllocError> {
-    let (from, to, room) = (bind.from, bind.to, bind.room);
-    let text = format!(in alloc; ":{from}-{to}/{room}")?;
-    add(out, text.as_str())
+    match bind {
+        BindTree::Tokens(range) => {
+            let (from, to, room) = (range.from, range.to, range.room);
+            let text = format!(in alloc; ":{from}-{to}/{room}")?;
+            add(out, text.as_str())
+        }
+        BindTree::Expr(..) => add(out, ":an expression"),
+    }
 }
 
 fn add_value(alloc: Global, out: &mut String, value: &ValueTree) -> Result<(), AllocError> {

@@ -4,12 +4,14 @@ ghost use Rattle.std.specs.Prelude.{◌≡◌, IfOk};
 ghost use Rattle.token_grammar.specs.Readings.{Told};
 ghost use Rattle.token_grammar.specs.Notation.{Many};
 ghost use Rattle.token_grammar.specs.Tokens.{next_sign};
+ghost use Rattle.soql_parse.specs.Readers.{BindsBy};
 ghost use Rattle.soql_parse.specs.Queries as grammar;
 
-use crate::bind::bind;
+use crate::binds::{Binds, bind};
+use crate::rule::BindRule;
 use apex_lexer::{Keyword, Sign, Token, TokenKind};
 use apex_list::Items;
-use apex_syntax::{CountTree, ListTree, NumberTree, ValueTree};
+use apex_syntax::{BindTree, CountTree, ListTree, NumberTree, ValueTree};
 use std::alloc::{AllocError, Global};
 use token_grammar::{
     ParseWord, Stop, is_sign, literal_bytes, open_sign, pass_sign, span_of, token_at,
@@ -81,29 +83,35 @@ fn literal(alloc: Global, tokens: &[Token], at: usize) -> Result<(ValueTree, usi
     Err(Stop::At(ParseWord::Expected, at))
 }
 
-fn bound(
+fn bound<K: BindRule, B: Fn(usize, usize) -> Result<(BindTree, usize), Stop>>(
     alloc: Global,
     tokens: &[Token],
     at: usize,
     room: usize,
+    binds: &Binds<K, B>,
 ) -> Result<(ValueTree, usize), Stop>
-    ensures { Told tokens.now (grammar.bound room) at result }
+    requires calls { B.IsAlwaysCallable binds.now.read }
+    requires told { BindsBy tokens.now (B.post binds.now.read) (K.rule binds.now.how) }
+    ensures { Told tokens.now (grammar.bound (K.rule binds.now.how) room) at result }
 {
-    let (bind, end) = bind(alloc, tokens, at, room)?;
+    let (bind, end) = bind(tokens, at, room, binds)?;
     Ok((ValueTree::Bind(bind), end))
 }
 
 /// A value of a condition.
-pub fn value(
+pub fn value<K: BindRule, B: Fn(usize, usize) -> Result<(BindTree, usize), Stop>>(
     alloc: Global,
     tokens: &[Token],
     at: usize,
     room: usize,
+    binds: &Binds<K, B>,
 ) -> Result<(ValueTree, usize), Stop>
-    ensures { Told tokens.now (grammar.value room) at result }
+    requires calls { B.IsAlwaysCallable binds.now.read }
+    requires told { BindsBy tokens.now (B.post binds.now.read) (K.rule binds.now.how) }
+    ensures { Told tokens.now (grammar.value (K.rule binds.now.how) room) at result }
 {
     if is_sign(tokens, at, Sign::Colon) {
-        bound(alloc, tokens, at, room)
+        bound(alloc, tokens, at, room, binds)
     } else if is_sign(tokens, at, Sign::Minus) {
         negative(tokens, at)
     } else {
@@ -111,33 +119,39 @@ pub fn value(
     }
 }
 
-fn comma_value(
+fn comma_value<K: BindRule, B: Fn(usize, usize) -> Result<(BindTree, usize), Stop>>(
     alloc: Global,
     tokens: &[Token],
     at: usize,
     room: usize,
+    binds: &Binds<K, B>,
 ) -> Result<(ValueTree, usize), Stop>
-    ensures { Told tokens.now (grammar.comma_value room) at result }
+    requires calls { B.IsAlwaysCallable binds.now.read }
+    requires told { BindsBy tokens.now (B.post binds.now.read) (K.rule binds.now.how) }
+    ensures { Told tokens.now (grammar.comma_value (K.rule binds.now.how) room) at result }
 {
     let behind = pass_sign(tokens, at, Sign::Comma)?;
-    value(alloc, tokens, behind, room)
+    value(alloc, tokens, behind, room, binds)
 }
 
 // The values behind the first one of a list.
-fn more_values(
+fn more_values<K: BindRule, B: Fn(usize, usize) -> Result<(BindTree, usize), Stop>>(
     alloc: Global,
     tokens: &[Token],
     at: usize,
     room: usize,
     first: ValueTree,
+    binds: &Binds<K, B>,
 ) -> Result<(Items<ValueTree>, usize), Stop>
-    ensures { Told tokens.now (grammar.more_values room first) at result }
+    requires calls { B.IsAlwaysCallable binds.now.read }
+    requires told { BindsBy tokens.now (B.post binds.now.read) (K.rule binds.now.how) }
+    ensures { Told tokens.now (grammar.more_values (K.rule binds.now.how) room first) at result }
 {
     let mut values = Items::new(alloc);
     values.push(first)?;
     let mut end = at;
     'values: while is_sign(tokens, end, Sign::Comma) {
-        let (value, after) = comma_value(alloc, tokens, end, room)?;
+        let (value, after) = comma_value(alloc, tokens, end, room, binds)?;
         values.push(value)?;
         end = after;
     }
@@ -145,36 +159,42 @@ fn more_values(
 }
 
 // Values in parentheses.
-fn values(
+fn values<K: BindRule, B: Fn(usize, usize) -> Result<(BindTree, usize), Stop>>(
     alloc: Global,
     tokens: &[Token],
     at: usize,
     room: usize,
+    binds: &Binds<K, B>,
 ) -> Result<(ListTree, usize), Stop>
-    ensures { Told tokens.now (grammar.values room) at result }
+    requires calls { B.IsAlwaysCallable binds.now.read }
+    requires told { BindsBy tokens.now (B.post binds.now.read) (K.rule binds.now.how) }
+    ensures { Told tokens.now (grammar.values (K.rule binds.now.how) room) at result }
 {
     let (inside, behind) = open_sign(tokens, at, Sign::OpenParen, room)?;
-    let (first, behind) = value(alloc, tokens, behind, inside)?;
-    let (values, behind) = more_values(alloc, tokens, behind, inside, first)?;
+    let (first, behind) = value(alloc, tokens, behind, inside, binds)?;
+    let (values, behind) = more_values(alloc, tokens, behind, inside, first, binds)?;
     let end = pass_sign(tokens, behind, Sign::CloseParen)?;
     let span = span_of(tokens, at, end);
     Ok((ListTree::Values(span, values), end))
 }
 
 /// What stands behind `IN`.
-pub fn list(
+pub fn list<K: BindRule, B: Fn(usize, usize) -> Result<(BindTree, usize), Stop>>(
     alloc: Global,
     tokens: &[Token],
     at: usize,
     room: usize,
+    binds: &Binds<K, B>,
 ) -> Result<(ListTree, usize), Stop>
-    ensures { Told tokens.now (grammar.list room) at result }
+    requires calls { B.IsAlwaysCallable binds.now.read }
+    requires told { BindsBy tokens.now (B.post binds.now.read) (K.rule binds.now.how) }
+    ensures { Told tokens.now (grammar.list (K.rule binds.now.how) room) at result }
 {
     if is_sign(tokens, at, Sign::Colon) {
-        let (bind, end) = bind(alloc, tokens, at, room)?;
+        let (bind, end) = bind(tokens, at, room, binds)?;
         Ok((ListTree::Bind(bind), end))
     } else {
-        values(alloc, tokens, at, room)
+        values(alloc, tokens, at, room, binds)
     }
 }
 
@@ -190,16 +210,19 @@ fn whole(tokens: &[Token], at: usize) -> Result<(CountTree, usize), Stop>
 }
 
 /// What stands behind `LIMIT` and `OFFSET`.
-pub fn count(
+pub fn count<K: BindRule, B: Fn(usize, usize) -> Result<(BindTree, usize), Stop>>(
     alloc: Global,
     tokens: &[Token],
     at: usize,
     room: usize,
+    binds: &Binds<K, B>,
 ) -> Result<(CountTree, usize), Stop>
-    ensures { Told tokens.now (grammar.count room) at result }
+    requires calls { B.IsAlwaysCallable binds.now.read }
+    requires told { BindsBy tokens.now (B.post binds.now.read) (K.rule binds.now.how) }
+    ensures { Told tokens.now (grammar.count (K.rule binds.now.how) room) at result }
 {
     if is_sign(tokens, at, Sign::Colon) {
-        let (bind, end) = bind(alloc, tokens, at, room)?;
+        let (bind, end) = bind(tokens, at, room, binds)?;
         Ok((CountTree::Bind(bind), end))
     } else {
         whole(tokens, at)

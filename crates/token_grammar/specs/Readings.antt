@@ -22,6 +22,10 @@ Tells tokens rule at (Err stop) = StopsBy tokens rule at stop
 pub record Told (tokens : List Token) {A : Type 0} (rule : Rule A) (at : ℕ) (answer : Result (A × ℕ) Stop) : Type 0 where
   pub by : Tells tokens rule at answer
 
+-- whatever a reader answers at a place tells by the rule
+abbrev pub ReadsBy : List Token → {A : Type 0} → (ℕ → Result (A × ℕ) Stop → Type 0) → Rule A → Type 0
+ReadsBy tokens {A} answers rule = (place : ℕ) (answer : Result (A × ℕ) Stop) → answers place answer → Told tokens rule place answer
+
 -- the same of a call that takes no memory
 abbrev pub StopsAt : List Token → {A : Type 0} → Rule A → ℕ → Stop → Type 0
 StopsAt tokens rule at (At word place) = Stops tokens rule at word place

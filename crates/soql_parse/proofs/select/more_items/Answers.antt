@@ -4,7 +4,7 @@ use Rattle.token_grammar.proofs.Moves.{nearer}
 use Rattle.soql_parse.proofs.select.more_items.Goals as goal
 
 pub items-smaller : goal.items-smaller
-items-smaller c = nearer (inl tt) c.in_ok-item.ensures
+items-smaller g c = nearer (inl tt) c.in_ok-item.ensures
 
 pub items-preserved : goal.items-preserved
-items-preserved c = list_more c.items.invariant c.items-test.ensures c.in_ok-item.ensures c.in_ok-push-2.ensures.ok
+items-preserved g c = list_more c.items.invariant c.items-test.ensures c.in_ok-item.ensures c.in_ok-push-2.ensures.ok

@@ -2,10 +2,10 @@ use Rattle.token_grammar.proofs.Chain.{next, halt, past, stuck, here, since, giv
 use Rattle.soql_parse.proofs.select.sub_paren.Goals as goal
 
 pub returns-in_err-query : goal.returns-in_err-query
-returns-in_err-query c = raised c.from_residual-in_err-query.ensures (here (next c.in_ok-inside.ensures.told (halt c.in_err-query.ensures)))
+returns-in_err-query g c = raised c.from_residual-in_err-query.ensures (here (next c.in_ok-inside.ensures.told (halt c.in_err-query.ensures)))
 
 pub returns-in_err-end : goal.returns-in_err-end
-returns-in_err-end c = raised c.from_residual-in_err-end.ensures (here (next c.in_ok-inside.ensures.told (next c.in_ok-query.ensures (stuck c.in_err-end.ensures))))
+returns-in_err-end g c = raised c.from_residual-in_err-end.ensures (here (next c.in_ok-inside.ensures.told (next c.in_ok-query.ensures (stuck c.in_err-end.ensures))))
 
 pub returns : goal.returns
-returns c = rw c.in_ok-new.ensures (rw c.span_of-span.ensures (here (next c.in_ok-inside.ensures.told (next c.in_ok-query.ensures (past c.in_ok-end.ensures (since gives))))))
+returns g c = rw c.in_ok-new.ensures (rw c.span_of-span.ensures (here (next c.in_ok-inside.ensures.told (next c.in_ok-query.ensures (past c.in_ok-end.ensures (since gives))))))

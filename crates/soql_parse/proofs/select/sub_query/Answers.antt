@@ -2,13 +2,13 @@ use Rattle.token_grammar.proofs.Chain.{next, halt, past, stuck, here, since, giv
 use Rattle.soql_parse.proofs.select.sub_query.Goals as goal
 
 pub returns-in_err-select : goal.returns-in_err-select
-returns-in_err-select c = raised c.from_residual-in_err-select.ensures (here (past c.in_ok-behind.ensures (halt c.in_err-select.ensures)))
+returns-in_err-select g c = raised c.from_residual-in_err-select.ensures (here (past c.in_ok-behind.ensures (halt c.in_err-select.ensures)))
 
 pub returns-in_err-behind-2 : goal.returns-in_err-behind-2
-returns-in_err-behind-2 c = raised c.from_residual-in_err-behind-2.ensures (here (past c.in_ok-behind.ensures (next c.in_ok-select.ensures (stuck c.in_err-behind-2.ensures))))
+returns-in_err-behind-2 g c = raised c.from_residual-in_err-behind-2.ensures (here (past c.in_ok-behind.ensures (next c.in_ok-select.ensures (stuck c.in_err-behind-2.ensures))))
 
 pub returns-in_err-source : goal.returns-in_err-source
-returns-in_err-source c = raised c.from_residual-in_err-source.ensures (here (past c.in_ok-behind.ensures (next c.in_ok-select.ensures (past c.in_ok-behind-2.ensures (halt c.in_err-source.ensures)))))
+returns-in_err-source g c = raised c.from_residual-in_err-source.ensures (here (past c.in_ok-behind.ensures (next c.in_ok-select.ensures (past c.in_ok-behind-2.ensures (halt c.in_err-source.ensures)))))
 
 pub returns : goal.returns
-returns c = rw c.query_tree.ensures (rw c.span_of-span.ensures (here (past c.in_ok-behind.ensures (next c.in_ok-select.ensures (past c.in_ok-behind-2.ensures (next c.in_ok-source.ensures (since gives)))))))
+returns g c = rw c.query_tree.ensures (rw c.span_of-span.ensures (here (past c.in_ok-behind.ensures (next c.in_ok-select.ensures (past c.in_ok-behind-2.ensures (next c.in_ok-source.ensures (since gives)))))))

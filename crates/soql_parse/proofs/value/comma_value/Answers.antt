@@ -2,4 +2,4 @@ use Rattle.token_grammar.proofs.Chain.{past}
 use Rattle.soql_parse.proofs.value.comma_value.Goals as goal
 
 pub returns : goal.returns
-returns c = past c.in_ok-behind.ensures c.value.ensures
+returns g c = past c.in_ok-behind.ensures c.value.ensures

@@ -4,7 +4,7 @@ use Rattle.token_grammar.proofs.Moves.{nearer}
 use Rattle.soql_parse.proofs.value.more_values.Goals as goal
 
 pub values-smaller : goal.values-smaller
-values-smaller c = nearer (inl tt) c.in_ok-value.ensures
+values-smaller g c = nearer (inl tt) c.in_ok-value.ensures
 
 pub values-preserved : goal.values-preserved
-values-preserved c = list_more c.values.invariant c.values-test.ensures c.in_ok-value.ensures c.in_ok-push-2.ensures.ok
+values-preserved g c = list_more c.values.invariant c.values-test.ensures c.in_ok-value.ensures c.in_ok-push-2.ensures.ok

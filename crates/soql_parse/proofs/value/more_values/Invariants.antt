@@ -6,7 +6,7 @@ use Rattle.soql_parse.specs.Queries as grammar
 use Rattle.soql_parse.proofs.value.more_values.Given as goal
 
 abbrev pub invariant-values : goal.invariant-values
-invariant-values l = Listed l.tokens (next_sign Comma) (grammar.comma_value l.room) l.at l.fn.first l.values l.end
+invariant-values g l = Listed l.tokens (next_sign Comma) (grammar.comma_value (g.K.BindRule.rule l.binds.how) l.room) l.at l.fn.first l.values l.end
 
 abbrev pub decreases-values : goal.decreases-values
-decreases-values l = length l.tokens - l.end
+decreases-values g l = length l.tokens - l.end
