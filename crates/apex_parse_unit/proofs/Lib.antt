@@ -1,3 +1,1 @@
 mod Moving
-mod Looks
-mod Rooms

@@ -1,2 +1,5 @@
-pub mod Stmts
+pub mod Kinds
+pub mod Members
+pub mod Classes
+pub mod Triggers
 pub mod Units

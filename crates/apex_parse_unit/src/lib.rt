@@ -1,20 +1,19 @@
-//! The parser of statements and units.
-//!
-//! A function that reads a statement with statements in it takes a call that reads one in a form that is opened; the
-//! functions of `read` hand it in.
+//! The parser of units: classes, interfaces, triggers and anonymous blocks.
 #![tactic(auto)]
 
-mod declare;
-mod leaf;
-mod look;
-mod loops;
-mod nest;
+mod classes;
+mod interfaces;
+mod kind;
+mod members;
+mod modifiers;
+mod params;
 mod part;
-mod read;
-mod tries;
+mod triggers;
+mod whole;
 
-pub use part::{ForHead, Ways};
-pub use read::{anonymous_unit, stmt_within};
+pub use apex_parse_stmt::anonymous_unit;
+pub use kind::{UnitKind, unit_kind};
+pub use whole::{class_unit, trigger_unit};
 
 #[cfg(test)]
 mod tests;

@@ -1,30 +1,39 @@
-// What is read on the way to a statement.
+// What is read on the way to a unit.
 
-use apex_list::Boxed;
-use apex_syntax::{Expr, ForStart, Stmt, TypeTree, Word};
+use apex_list::{Boxed, Items};
+use apex_syntax::{Body, ClassModifier, Expr, ParamTree, ResultTree, TypeTree, Word};
 
-/// The statements of an `if`.
+/// A member without its modifiers.
 #[derive(Debug, Drop)]
-pub struct Ways {
-    pub yes: Boxed<Stmt>,
-    /// The one behind `else`.
-    pub no: Option<Boxed<Stmt>>,
+pub enum MemberBody {
+    Field(TypeTree, Word, Option<Boxed<Expr>>),
+    Property(TypeTree, Word),
+    Method(ResultTree, Word, Items<ParamTree>, Option<Body>),
+    Constructor(Word, Items<ParamTree>, Body),
 }
 
-/// What stands in the parentheses of a `for`.
+/// What stands before the braces of a class.
 #[derive(Debug, Drop)]
-pub enum ForHead {
-    /// A type, a name, and the list behind the colon.
-    Each(TypeTree, Word, Boxed<Expr>),
-    /// What it begins with, its condition and its step.
-    Loop(ForStart, Option<Boxed<Expr>>, Option<Boxed<Expr>>),
-}
-
-/// What stands in the parentheses of a `catch`.
-#[derive(Debug, Drop)]
-pub struct Caught {
-    pub class: Word,
-    /// The name behind a dot of the class.
-    pub member: Option<Word>,
+pub struct ClassHead {
+    pub modifiers: Items<ClassModifier>,
     pub name: Word,
+    /// The name behind `extends`.
+    pub parent: Option<Word>,
+    /// The names behind `implements`.
+    pub interfaces: Items<Word>,
+}
+
+/// What stands before the braces of an interface.
+#[derive(Debug, Drop)]
+pub struct InterfaceHead {
+    pub modifier: Option<ClassModifier>,
+    pub name: Word,
+}
+
+/// What stands before the events of a trigger.
+#[derive(Debug, Drop)]
+pub struct TriggerHead {
+    pub name: Word,
+    /// The object behind `on`.
+    pub object: Word,
 }

@@ -1,14 +1,16 @@
-// Blocks with their statements, or their first fault with the bytes where it stands, as the rules of docs/language.md
-// give them. A statement is shown by its kind, with the texts of its types and expressions; a statement in another one
-// stands between braces, and so do the statements of a block.
+// Units with their trees, or their first fault with the bytes where it stands, as the rules of docs/language.md give
+// them. Of a tree its names, words and parts are shown; types, values and bodies are shown as their bytes in the text.
 
-use crate::{anonymous_unit, stmt_within};
+use crate::{UnitKind, class_unit, trigger_unit, unit_kind};
 use apex_lexer::lex;
-use apex_syntax::{Body, Catch, Declarator, DmlOp, Expr, ForStart, Stmt, TypeTree, Unit, Word};
+use apex_syntax::{
+    Body, ClassTree, ClassWord, EventOp, EventTree, Expr, InterfaceTree, MemberTree, MemberWord,
+    ParamTree, ResultTree, SignatureTree, TriggerTree, TypeTree, Unit, Word,
+};
 use apex_text::Span;
 use std::alloc::{AllocError, Global};
 use std::test::Fail;
-use token_grammar::{ParseFault, fault_of};
+use token_grammar::ParseFault;
 
 fn add(out: &mut String, text: &str) -> Result<(), AllocError> {
     out.push_str(text)?;
@@ -19,8 +21,35 @@ fn add_span(out: &mut String, text: &str, span: Span) -> Result<(), AllocError> 
     add(out, text.get(span.from..span.to).unwrap_or("?"))
 }
 
-fn add_word(out: &mut String, text: &str, word: &Word) -> Result<(), AllocError> {
-    add_span(out, text, word.span)
+fn add_word(out: &mut String, word: &Word) -> Result<(), AllocError> {
+    add(out, str::from_utf8(word.name.bytes()).unwrap_or("?"))
+}
+
+fn member_word(word: MemberWord) -> &'static str {
+    match word {
+        MemberWord::Public => "public ",
+        MemberWord::Global => "global ",
+        MemberWord::Private => "private ",
+        MemberWord::Protected => "protected ",
+        MemberWord::Static => "static ",
+        MemberWord::Final => "final ",
+        MemberWord::Virtual => "virtual ",
+        MemberWord::Abstract => "abstract ",
+        MemberWord::Override => "override ",
+    }
+}
+
+fn class_word(word: ClassWord) -> &'static str {
+    match word {
+        ClassWord::Public => "public ",
+        ClassWord::Global => "global ",
+        ClassWord::Private => "private ",
+        ClassWord::Virtual => "virtual ",
+        ClassWord::Abstract => "abstract ",
+        ClassWord::WithSharing => "sharing ",
+        ClassWord::WithoutSharing => "unshared ",
+        ClassWord::InheritedSharing => "inherited ",
+    }
 }
 
 fn span_of(tree: &Expr) -> Span {
@@ -42,596 +71,796 @@ fn span_of(tree: &Expr) -> Span {
     }
 }
 
-fn add_expr(out: &mut String, text: &str, tree: &Expr) -> Result<(), AllocError> {
-    add_span(out, text, span_of(tree))
+// A type and a name.
+fn add_named(out: &mut String, text: &str, kind: &TypeTree, name: &Word) -> Result<(), AllocError> {
+    add_span(out, text, kind.span)?;
+    add(out, " ")?;
+    add_word(out, name)
 }
 
-fn add_type(out: &mut String, text: &str, tree: &TypeTree) -> Result<(), AllocError> {
-    add_span(out, text, tree.span)
-}
-
-// An expression behind a blank, where there is one.
-fn add_some(out: &mut String, text: &str, tree: Option<&Expr>) -> Result<(), AllocError> {
-    if let Some(tree) = tree {
-        add(out, " ")?;
-        add_expr(out, text, tree)?;
+fn add_params(out: &mut String, text: &str, params: &[ParamTree]) -> Result<(), AllocError> {
+    add(out, "(")?;
+    for (i, param) in params.iter().enumerate() {
+        add(out, if i == 0 { "" } else { ", " })?;
+        add_named(out, text, &param.kind, &param.name)?;
     }
-    Ok(())
+    add(out, ")")
 }
 
-fn add_names(out: &mut String, text: &str, names: &[Declarator]) -> Result<(), AllocError> {
-    for name in names {
-        add(out, " ")?;
-        add_word(out, text, &name.name)?;
-        if let Some(value) = &name.value {
+fn add_result(out: &mut String, text: &str, answer: &ResultTree) -> Result<(), AllocError> {
+    match answer {
+        ResultTree::Void(_) => add(out, "void "),
+        ResultTree::Type(kind) => {
+            add_span(out, text, kind.span)?;
+            add(out, " ")
+        }
+    }
+}
+
+fn add_body(out: &mut String, text: &str, body: Option<&Body>) -> Result<(), AllocError> {
+    match body {
+        Some(body) => add_span(out, text, body.span),
+        None => add(out, ";"),
+    }
+}
+
+fn add_value(out: &mut String, text: &str, value: Option<&Expr>) -> Result<(), AllocError> {
+    match value {
+        Some(tree) => {
             add(out, "=")?;
-            add_expr(out, text, value.get())?;
+            add_span(out, text, span_of(tree))
         }
+        None => Ok(()),
+    }
+}
+
+fn add_member(out: &mut String, text: &str, member: &MemberTree) -> Result<(), AllocError> {
+    let (MemberTree::Field(_, modifiers, ..)
+    | MemberTree::Property(_, modifiers, ..)
+    | MemberTree::Method(_, modifiers, ..)
+    | MemberTree::Constructor(_, modifiers, ..)) = member;
+    for modifier in modifiers.as_slice() {
+        add(out, member_word(modifier.word))?;
+    }
+    match member {
+        MemberTree::Field(_, _, kind, name, value) => {
+            add_named(out, text, kind, name)?;
+            add_value(out, text, value.as_ref().map(|tree| tree.get()))
+        }
+        MemberTree::Property(_, _, kind, name) => {
+            add_named(out, text, kind, name)?;
+            add(out, "{}")
+        }
+        MemberTree::Method(_, _, answer, name, params, body) => {
+            add_result(out, text, answer)?;
+            add_word(out, name)?;
+            add_params(out, text, params.as_slice())?;
+            add_body(out, text, body.as_ref())
+        }
+        MemberTree::Constructor(_, _, name, params, body) => {
+            add(out, "new ")?;
+            add_word(out, name)?;
+            add_params(out, text, params.as_slice())?;
+            add_body(out, text, Some(body))
+        }
+    }
+}
+
+fn add_class(out: &mut String, text: &str, tree: &ClassTree) -> Result<(), AllocError> {
+    for modifier in tree.modifiers.as_slice() {
+        add(out, class_word(modifier.word))?;
+    }
+    add_word(out, &tree.name)?;
+    if let Some(parent) = &tree.parent {
+        add(out, " < ")?;
+        add_word(out, parent)?;
+    }
+    for name in tree.interfaces.as_slice() {
+        add(out, " + ")?;
+        add_word(out, name)?;
+    }
+    for member in tree.members.as_slice() {
+        add(out, " | ")?;
+        add_member(out, text, member)?;
     }
     Ok(())
 }
 
-fn add_start(out: &mut String, text: &str, start: &ForStart) -> Result<(), AllocError> {
-    match start {
-        ForStart::Nothing => Ok(()),
-        ForStart::Declare(kind, names) => {
-            add_type(out, text, kind)?;
-            add_names(out, text, names.as_slice())
-        }
-        ForStart::Expr(tree) => add_expr(out, text, tree.get()),
+fn add_signature(out: &mut String, text: &str, tree: &SignatureTree) -> Result<(), AllocError> {
+    add(out, " | ")?;
+    add_result(out, text, &tree.result)?;
+    add_word(out, &tree.name)?;
+    add_params(out, text, tree.params.as_slice())
+}
+
+fn add_interface(out: &mut String, text: &str, tree: &InterfaceTree) -> Result<(), AllocError> {
+    add(out, "interface ")?;
+    if let Some(modifier) = &tree.modifier {
+        add(out, class_word(modifier.word))?;
     }
-}
-
-fn dml_word(op: DmlOp) -> &'static str {
-    match op {
-        DmlOp::Insert => "insert ",
-        DmlOp::Update => "update ",
-        DmlOp::Delete => "delete ",
-        DmlOp::Upsert => "upsert ",
-    }
-}
-
-fn add_args(alloc: Global, out: &mut String, word: &str, args: &[Expr]) -> Result<(), AllocError> {
-    let shown = format!(in alloc; "{word}({} args)", args.len())?;
-    add(out, shown.as_str())
-}
-
-#[cycle(shown)]
-fn add_stmts(
-    alloc: Global,
-    out: &mut String,
-    text: &str,
-    stmts: &[Stmt],
-) -> Result<(), AllocError> {
-    for (i, stmt) in stmts.iter().enumerate() {
-        if i > 0 {
-            add(out, " ")?;
-        }
-        add_stmt(alloc, out, text, stmt)?;
+    add_word(out, &tree.name)?;
+    for method in tree.methods.as_slice() {
+        add_signature(out, text, method)?;
     }
     Ok(())
 }
 
-#[cycle(shown)]
-fn add_body(alloc: Global, out: &mut String, text: &str, body: &Body) -> Result<(), AllocError> {
-    add(out, "{")?;
-    add_stmts(alloc, out, text, body.stmts.as_slice())?;
-    add(out, "}")
-}
-
-#[cycle(shown)]
-fn add_inner(alloc: Global, out: &mut String, text: &str, stmt: &Stmt) -> Result<(), AllocError> {
-    add(out, " {")?;
-    add_stmt(alloc, out, text, stmt)?;
-    add(out, "}")
-}
-
-#[cycle(shown)]
-fn add_catches(
-    alloc: Global,
-    out: &mut String,
-    text: &str,
-    catches: &[Catch],
-) -> Result<(), AllocError> {
-    for catch in catches {
-        add(out, " catch ")?;
-        add_word(out, text, &catch.class)?;
-        if let Some(member) = &catch.member {
-            add(out, ".")?;
-            add_word(out, text, member)?;
-        }
-        add(out, " ")?;
-        add_word(out, text, &catch.name)?;
-        add(out, " ")?;
-        add_body(alloc, out, text, &catch.body)?;
-    }
-    Ok(())
-}
-
-// A statement with statements in it.
-#[cycle(shown)]
-fn add_nested(alloc: Global, out: &mut String, text: &str, stmt: &Stmt) -> Result<(), AllocError> {
-    match stmt {
-        Stmt::Block(body) => add_body(alloc, out, text, body),
-        Stmt::If(_, cond, yes, no) => {
-            add(out, "if ")?;
-            add_expr(out, text, cond.get())?;
-            add_inner(alloc, out, text, yes.get())?;
-            if let Some(no) = no {
-                add(out, " else")?;
-                add_inner(alloc, out, text, no.get())?;
-            }
-            Ok(())
-        }
-        Stmt::While(_, cond, inner) => {
-            add(out, "while ")?;
-            add_expr(out, text, cond.get())?;
-            add_inner(alloc, out, text, inner.get())
-        }
-        Stmt::Do(_, inner, cond) => {
-            add(out, "do")?;
-            add_inner(alloc, out, text, inner.get())?;
-            add(out, " while ")?;
-            add_expr(out, text, cond.get())
-        }
-        _ => add(out, "?"),
+fn event_word(event: &EventTree) -> &'static str {
+    match (event.after, event.op) {
+        (false, EventOp::Insert) => " before insert",
+        (false, EventOp::Update) => " before update",
+        (false, EventOp::Delete) => " before delete",
+        (true, EventOp::Insert) => " after insert",
+        (true, EventOp::Update) => " after update",
+        (true, EventOp::Delete) => " after delete",
     }
 }
 
-#[cycle(shown)]
-fn add_loop(alloc: Global, out: &mut String, text: &str, stmt: &Stmt) -> Result<(), AllocError> {
-    match stmt {
-        Stmt::For(_, start, cond, step, inner) => {
-            add(out, "for (")?;
-            add_start(out, text, start)?;
-            add(out, ";")?;
-            add_some(out, text, cond.as_ref().map(|tree| tree.get()))?;
-            add(out, "; ")?;
-            if let Some(step) = step {
-                add_expr(out, text, step.get())?;
-            }
-            add(out, ")")?;
-            add_inner(alloc, out, text, inner.get())
-        }
-        Stmt::ForEach(_, kind, name, list, inner) => {
-            add(out, "for (")?;
-            add_type(out, text, kind)?;
-            add(out, " ")?;
-            add_word(out, text, name)?;
-            add(out, " : ")?;
-            add_expr(out, text, list.get())?;
-            add(out, ")")?;
-            add_inner(alloc, out, text, inner.get())
-        }
-        Stmt::Try(_, body, catches, last) => {
-            add(out, "try ")?;
-            add_body(alloc, out, text, body)?;
-            add_catches(alloc, out, text, catches.as_slice())?;
-            if let Some(last) = last {
-                add(out, " finally ")?;
-                add_body(alloc, out, text, last)?;
-            }
-            Ok(())
-        }
-        _ => add_nested(alloc, out, text, stmt),
+fn add_trigger(out: &mut String, text: &str, tree: &TriggerTree) -> Result<(), AllocError> {
+    add_word(out, &tree.name)?;
+    add(out, " on ")?;
+    add_word(out, &tree.object)?;
+    for event in tree.events.as_slice() {
+        add(out, event_word(event))?;
     }
+    add(out, " ")?;
+    add_span(out, text, tree.body.span)
 }
 
-fn add_leaf(alloc: Global, out: &mut String, text: &str, stmt: &Stmt) -> Result<(), AllocError> {
-    match stmt {
-        Stmt::Empty(_) => add(out, ";"),
-        Stmt::Declare(_, kind, names) => {
-            add_type(out, text, kind)?;
-            add_names(out, text, names.as_slice())
-        }
-        Stmt::Expr(_, tree) => {
-            add_expr(out, text, tree.get())?;
-            add(out, ".")
-        }
-        Stmt::Return(_, value) => {
-            add(out, "return")?;
-            add_some(out, text, value.as_ref().map(|tree| tree.get()))
-        }
-        Stmt::Break(_) => add(out, "break"),
-        Stmt::Continue(_) => add(out, "continue"),
-        Stmt::Throw(_, value) => {
-            add(out, "throw ")?;
-            add_expr(out, text, value.get())
-        }
-        Stmt::Dml(_, op, value) => {
-            add(out, dml_word(*op))?;
-            add_expr(out, text, value.get())
-        }
-        Stmt::This(_, args) => add_args(alloc, out, "this", args.as_slice()),
-        Stmt::Super(_, args) => add_args(alloc, out, "super", args.as_slice()),
-        _ => add(out, "?"),
-    }
-}
-
-#[cycle(shown)]
-fn add_stmt(alloc: Global, out: &mut String, text: &str, stmt: &Stmt) -> Result<(), AllocError> {
-    match stmt {
-        Stmt::Block(..)
-        | Stmt::If(..)
-        | Stmt::While(..)
-        | Stmt::Do(..)
-        | Stmt::For(..)
-        | Stmt::ForEach(..)
-        | Stmt::Try(..) => add_loop(alloc, out, text, stmt),
-        _ => add_leaf(alloc, out, text, stmt),
-    }
-}
-
-fn fault_shown(alloc: Global, fault: ParseFault) -> Result<String, AllocError> {
-    match fault {
-        ParseFault::Wrong(word, span) => {
+fn shown(alloc: Global, text: &str, unit: Result<Unit, ParseFault>) -> Result<String, AllocError> {
+    let mut out = String::new(alloc);
+    match unit {
+        Ok(Unit::Class(tree)) => add_class(&mut out, text, &tree)?,
+        Ok(Unit::Interface(tree)) => add_interface(&mut out, text, &tree)?,
+        Ok(Unit::Trigger(tree)) => add_trigger(&mut out, text, &tree)?,
+        Ok(Unit::Block(_)) => add(&mut out, "a block")?,
+        Err(ParseFault::Wrong(word, span)) => {
             let Span { from, to } = span;
-            format!(in alloc; "{word} {from}-{to}")
+            write!(out, "{word} {from}-{to}")?;
         }
-        ParseFault::NoMemory => Err(AllocError),
+        Err(ParseFault::NoMemory) => return Err(AllocError),
     }
+    Ok(out)
 }
 
-fn shown(alloc: Global, text: &str) -> Result<String, AllocError> {
+fn class_shown(alloc: Global, text: &str) -> Result<String, AllocError> {
     let Ok(tokens) = lex(alloc, text.as_bytes()) else {
         return format!(in alloc; "no tokens");
     };
-    match anonymous_unit(alloc, tokens.as_slice()) {
-        Ok(Unit::Block(stmts)) => {
-            let mut out = String::new(alloc);
-            add_stmts(alloc, &mut out, text, stmts.as_slice())?;
-            Ok(out)
-        }
-        Ok(_) => format!(in alloc; "no block"),
-        Err(fault) => fault_shown(alloc, fault),
-    }
+    shown(alloc, text, class_unit(alloc, tokens.as_slice()))
+}
+
+fn trigger_shown(alloc: Global, text: &str) -> Result<String, AllocError> {
+    let Ok(tokens) = lex(alloc, text.as_bytes()) else {
+        return format!(in alloc; "no tokens");
+    };
+    shown(alloc, text, trigger_unit(alloc, tokens.as_slice()))
 }
 
 #[test]
-fn leaves(rt: HostRuntime) -> Result<(), Fail> {
+fn headers(rt: HostRuntime) -> Result<(), Fail> {
     let rows = [
-        ("", ""),
-        (";", ";"),
-        ("; ;", "; ;"),
-        ("a;", "a."),
-        ("a = 1;", "a = 1."),
-        ("a.b();", "a.b()."),
-        ("return;", "return"),
-        ("return a;", "return a"),
-        ("return a + b;", "return a + b"),
-        ("break;", "break"),
-        ("continue;", "continue"),
-        ("throw a;", "throw a"),
-        ("throw new A();", "throw new A()"),
-        ("insert a;", "insert a"),
-        ("UPDATE a.b;", "update a.b"),
-        ("delete [SELECT Id FROM A];", "delete [SELECT Id FROM A]"),
-        ("upsert a;", "upsert a"),
-        ("this(1);", "this(1 args)"),
-        ("super(a, b);", "super(2 args)"),
-        ("this();", "this(0 args)"),
-        ("this.a = 1;", "this.a = 1."),
-        ("super.a();", "super.a()."),
-        ("this;", "this."),
-        ("i++;", "i++."),
-        ("++i;", "++i."),
-        ("(a).b();", "(a).b()."),
-        ("[SELECT Id FROM A];", "[SELECT Id FROM A]."),
-        ("a; b;", "a. b."),
+        ("class A { }", "a"),
+        ("class A {}", "a"),
+        ("CLASS a { }", "a"),
+        ("public class A { }", "public a"),
+        ("global class A { }", "global a"),
+        ("private class A { }", "private a"),
+        ("virtual class A { }", "virtual a"),
+        ("abstract class A { }", "abstract a"),
+        ("with sharing class A { }", "sharing a"),
+        ("without sharing class A { }", "unshared a"),
+        ("inherited sharing class A { }", "inherited a"),
+        ("public with sharing class A { }", "public sharing a"),
+        ("With Sharing public class A { }", "sharing public a"),
+        ("public public class A { }", "public public a"),
+        ("public private class A { }", "public private a"),
+        (
+            "with sharing without sharing class A { }",
+            "sharing unshared a",
+        ),
+        (
+            "public virtual without /* x */ sharing class A { }",
+            "public virtual unshared a",
+        ),
+        ("class A extends B { }", "a < b"),
+        ("class A implements B { }", "a + b"),
+        ("class A implements B, C { }", "a + b + c"),
+        ("class A extends B implements C, D { }", "a < b + c + d"),
+        (
+            "public abstract class A extends B implements C { }",
+            "public abstract a < b + c",
+        ),
+        ("class with { }", "with"),
+        ("class sharing extends without { }", "sharing < without"),
+        ("class select { }", "select"),
+        ("class on { }", "on"),
+        ("class trigger { }", "trigger"),
+        ("class get { Integer set; }", "get | Integer set"),
+        ("", "Expected 0-0"),
+        ("class", "Expected 5-5"),
+        ("class A", "Expected 7-7"),
+        ("class A {", "Expected 9-9"),
+        ("public", "Expected 6-6"),
+        ("with", "Expected 4-4"),
+        ("with sharing", "Expected 12-12"),
+        ("A { }", "Expected 0-1"),
+        ("with class A { }", "Expected 5-10"),
+        ("with sharing sharing class A { }", "Expected 13-20"),
+        ("sharing class A { }", "Expected 0-7"),
+        ("static class A { }", "Expected 0-6"),
+        ("final class A { }", "Expected 0-5"),
+        ("class { }", "Expected 6-7"),
+        ("class class { }", "Expected 6-11"),
+        ("class A B { }", "Expected 8-9"),
+        ("class A extends { }", "Expected 16-17"),
+        ("class A extends B, C { }", "Expected 17-18"),
+        ("class A extends B.C { }", "Expected 17-18"),
+        ("class A implements { }", "Expected 19-20"),
+        ("class A implements B C { }", "Expected 21-22"),
+        ("class A implements B, { }", "Expected 22-23"),
+        ("class A implements B extends C { }", "Expected 21-28"),
+        ("class A { } }", "Expected 12-13"),
+        ("class A { } class B { }", "Expected 12-17"),
+        ("class A { };", "Expected 11-12"),
+        ("class A ( )", "Expected 8-9"),
+        ("class 1 { }", "Expected 6-7"),
+        ("@isTest class A { }", "Expected 0-1"),
+        ("class A<B> { }", "Expected 7-8"),
+        ("; class A { }", "Expected 0-1"),
+        ("public trigger T on A (before insert) { }", "Expected 7-14"),
+        ("trigger T on A (before insert) { }", "Expected 0-7"),
+        ("a.class { }", "Expected 0-1"),
+        ("override class A { }", "Expected 0-8"),
+        ("class A extends new { }", "Expected 16-19"),
+        ("protected class A { }", "Expected 0-9"),
     ];
     for (text, wanted) in rows {
-        let found = shown(rt.alloc(), text)?;
+        let found = class_shown(rt.alloc(), text)?;
         assert!(rt; found.as_str() == wanted, "{text}: {found}");
     }
     Ok(())
 }
 
 #[test]
-fn declarations(rt: HostRuntime) -> Result<(), Fail> {
+fn fields(rt: HostRuntime) -> Result<(), Fail> {
     let rows = [
-        ("A b;", "A b"),
-        ("A b = 1;", "A b=1"),
-        ("A b, c;", "A b c"),
-        ("A b = 1, c, d = e;", "A b=1 c d=e"),
-        ("A.B c;", "A.B c"),
-        ("List<A> b;", "List<A> b"),
-        ("Map<A, List<B>> c = d;", "Map<A, List<B>> c=d"),
-        ("A[] b;", "A[] b"),
-        ("A b = c = d;", "A b=c = d"),
-        ("select x;", "select x"),
-        ("Integer x = y < z ? 1 : 2;", "Integer x=y < z ? 1 : 2"),
-        ("a < b;", "a < b."),
-        ("a.b.c;", "a.b.c."),
-        ("a[0] = b;", "a[0] = b."),
-        ("List<A>.b c;", "Expected 6-7"),
-        ("A b c;", "Expected 4-5"),
-        ("A b = ;", "Expected 6-7"),
-        ("A b,;", "Expected 4-5"),
-        ("A b, c d;", "Expected 7-8"),
-        ("A b", "Expected 3-3"),
-        ("A class;", "Expected 2-7"),
-        ("A b = 1 c;", "Expected 8-9"),
+        ("class A { Integer x; }", "a | Integer x"),
+        ("class A { Integer x = 1; }", "a | Integer x=1"),
+        ("class A { public Integer x; }", "a | public Integer x"),
+        (
+            "class A { private static final Integer X = 1 + 2; }",
+            "a | private static final Integer x=1 + 2",
+        ),
+        ("class A { List<Integer> xs; }", "a | List<Integer> xs"),
+        (
+            "class A { Map<String, List<Integer>> m = new Map<String, List<Integer>>(); }",
+            "a | Map<String, List<Integer>> m=new Map<String, List<Integer>>()",
+        ),
+        ("class A { A.B c; }", "a | A.B c"),
+        ("class A { Account[] l; }", "a | Account[] l"),
+        ("class A { Integer[][] l; }", "a | Integer[][] l"),
+        ("class A { Integer x = y = z; }", "a | Integer x=y = z"),
+        (
+            "class A { static Integer x { get; set; } }",
+            "a | static Integer x{}",
+        ),
+        ("class A { String get { get; set; } }", "a | String get{}"),
+        (
+            "class A { public String s {GET;SET;} }",
+            "a | public String s{}",
+        ),
+        (
+            "class A { Integer a; Integer b; }",
+            "a | Integer a | Integer b",
+        ),
+        (
+            "class A { protected A b = [SELECT Id FROM A]; }",
+            "a | protected A b=[SELECT Id FROM A]",
+        ),
+        (
+            "class A { virtual override abstract global Integer x; }",
+            "a | virtual override abstract global Integer x",
+        ),
+        (
+            "class A { public public Integer x; }",
+            "a | public public Integer x",
+        ),
+        ("class A { on on; }", "a | on on"),
+        (
+            "class A { select select = from; }",
+            "a | select select=from",
+        ),
+        (
+            "class A { Integer x = a ? b : c; }",
+            "a | Integer x=a ? b : c",
+        ),
+        ("class A { Integer }", "Expected 18-19"),
+        ("class A { Integer x }", "Expected 20-21"),
+        ("class A { Integer x = }", "Expected 22-23"),
+        ("class A { Integer x = ; }", "Expected 22-23"),
+        ("class A { Integer x, y; }", "Expected 19-20"),
+        ("class A { Integer x y; }", "Expected 20-21"),
+        ("class A { Integer 1; }", "Expected 18-19"),
+        ("class A { Integer x = 1, y = 2; }", "Expected 23-24"),
+        ("class A { ; }", "Expected 10-11"),
+        ("class A { Integer x;; }", "Expected 20-21"),
+        ("class A { Integer x { get; } }", "Expected 27-28"),
+        ("class A { Integer x { set; get; } }", "Expected 22-25"),
+        ("class A { Integer x { get set; } }", "Expected 26-29"),
+        ("class A { Integer x { get; set } }", "Expected 31-32"),
+        (
+            "class A { Integer x { get { return 1; } set; } }",
+            "Expected 26-27",
+        ),
+        ("class A { Integer x { } }", "Expected 22-23"),
+        ("class A { Integer x { get; set; }; }", "Expected 33-34"),
+        ("class A { static; }", "Expected 16-17"),
+        ("class A { public }", "Expected 17-18"),
+        ("class A { Integer class; }", "Expected 18-23"),
+        ("class A { A.class b; }", "a | A.class b"),
+        ("class A { List<> x; }", "Expected 15-16"),
+        ("class A { List<A x; }", "Expected 17-18"),
+        ("class A { Map<A, B, C> x; }", "Expected 18-19"),
+        ("class A { A..b c; }", "Expected 12-13"),
+        ("class A { A[1] b; }", "Expected 12-13"),
+        ("class A { Integer x += 1; }", "Expected 20-22"),
+        ("class A { with sharing Integer x; }", "Expected 23-30"),
+        ("class A { with sharing x; }", "Expected 23-24"),
+        ("class A { with sharing; }", "a | with sharing"),
+        ("class A { @x Integer y; }", "Expected 10-11"),
+        ("class A { x = 1; }", "Expected 12-13"),
+        ("class A { { } }", "Expected 10-11"),
+        ("class A { 1 x; }", "Expected 10-11"),
+        ("class A { new x; }", "Expected 10-13"),
     ];
     for (text, wanted) in rows {
-        let found = shown(rt.alloc(), text)?;
+        let found = class_shown(rt.alloc(), text)?;
         assert!(rt; found.as_str() == wanted, "{text}: {found}");
     }
     Ok(())
 }
 
 #[test]
-fn branches(rt: HostRuntime) -> Result<(), Fail> {
+fn methods(rt: HostRuntime) -> Result<(), Fail> {
     let rows = [
-        ("if (a) b;", "if a {b.}"),
-        ("if (a) b; else c;", "if a {b.} else {c.}"),
-        ("if (a) { b; } else { c; }", "if a {{b.}} else {{c.}}"),
-        ("if (a) if (b) c; else d;", "if a {if b {c.} else {d.}}"),
+        ("class A { void f() { } }", "a | void f(){ }"),
         (
-            "if (a) if (b) c; else d; else e;",
-            "if a {if b {c.} else {d.}} else {e.}",
+            "class A { Integer f() { return 1; } }",
+            "a | Integer f(){ return 1; }",
         ),
         (
-            "if (a) { if (b) c; } else d;",
-            "if a {{if b {c.}}} else {d.}",
+            "class A { public static void f() { } }",
+            "a | public static void f(){ }",
+        ),
+        ("class A { abstract void f(); }", "a | abstract void f();"),
+        (
+            "class A { void f(Integer x) { } }",
+            "a | void f(Integer x){ }",
         ),
         (
-            "if (a) b; else if (c) d; else e;",
-            "if a {b.} else {if c {d.} else {e.}}",
+            "class A { void f(Integer x, String y) { } }",
+            "a | void f(Integer x, String y){ }",
         ),
         (
-            "if (a) while (b) if (c) d; else e;",
-            "if a {while b {if c {d.} else {e.}}}",
+            "class A { Map<A, B> f(List<C> c, D[] d); }",
+            "a | Map<A, B> f(List<C> c, D[] d);",
         ),
-        ("if (a) ;", "if a {;}"),
-        ("while (a) b;", "while a {b.}"),
-        ("while (a) { }", "while a {{}}"),
-        ("do a; while (b);", "do {a.} while b"),
-        ("do { a; b; } while (c);", "do {{a. b.}} while c"),
         (
-            "do do a; while (b); while (c);",
-            "do {do {a.} while b} while c",
+            "class A { override public String f(A.B c) { { } } }",
+            "a | override public String f(A.B c){ { } }",
         ),
-        ("{ }", "{}"),
-        ("{ a; { b; } }", "{a. {b.}}"),
-        ("if a b;", "Expected 3-4"),
-        ("if () b;", "Expected 4-5"),
-        ("if (a b;", "Expected 6-7"),
-        ("if (a) ", "Expected 7-7"),
-        ("if (a) else b;", "Expected 7-11"),
-        ("if (a) b else c;", "Expected 9-13"),
-        ("else a;", "Expected 0-4"),
-        ("while (a)", "Expected 9-9"),
-        ("while a;", "Expected 6-7"),
-        ("do a while (b);", "Expected 5-10"),
-        ("do a; (b);", "Expected 6-7"),
-        ("do a; while (b)", "Expected 15-15"),
-        ("{ a;", "Expected 4-4"),
-        ("}", "Expected 0-1"),
-        ("if (a) A b;", "if a {A b}"),
-        ("{ a }", "Expected 4-5"),
-        ("if (a) { b; ) }", "Expected 12-13"),
+        ("class A { A() { } }", "a | new a(){ }"),
+        (
+            "class A { public A(Integer x) { this.x = x; } }",
+            "a | public new a(Integer x){ this.x = x; }",
+        ),
+        ("class A { B() { } }", "a | new b(){ }"),
+        (
+            "class A { private A() { this(1); } }",
+            "a | private new a(){ this(1); }",
+        ),
+        (
+            "class A { A() { super(); } void g() { } }",
+            "a | new a(){ super(); } | void g(){ }",
+        ),
+        ("class A { VOID f() { } }", "a | void f(){ }"),
+        ("class A { A get() { } }", "a | A get(){ }"),
+        ("class A { void set(A on) { } }", "a | void set(A on){ }"),
+        (
+            "class A { virtual Integer f() { if (a) return 1; else return 2; } }",
+            "a | virtual Integer f(){ if (a) return 1; else return 2; }",
+        ),
+        (
+            "class A { void f() { try { a(); } catch (E e) { } } }",
+            "a | void f(){ try { a(); } catch (E e) { } }",
+        ),
+        ("class A { A a() { } A b; }", "a | A a(){ } | A b"),
+        (
+            "class A { void f(); Integer x; A() { } }",
+            "a | void f(); | Integer x | new a(){ }",
+        ),
+        (
+            "class A { final protected void f() { } }",
+            "a | final protected void f(){ }",
+        ),
+        ("class A { static A() { } }", "a | static new a(){ }"),
+        ("class A { void; }", "Expected 14-15"),
+        ("class A { void f; }", "Expected 16-17"),
+        ("class A { void f { } }", "Expected 17-18"),
+        ("class A { void f() ;; }", "Expected 20-21"),
+        ("class A { void f() = 1; }", "Expected 19-20"),
+        ("class A { void f(x) { } }", "Expected 18-19"),
+        ("class A { void f(Integer) { } }", "Expected 24-25"),
+        ("class A { void f(Integer x,) { } }", "Expected 27-28"),
+        ("class A { void f(, Integer x) { } }", "Expected 17-18"),
+        (
+            "class A { void f(Integer x String y) { } }",
+            "Expected 27-33",
+        ),
+        ("class A { void f(Integer x = 1) { } }", "Expected 27-28"),
+        ("class A { void f(void x) { } }", "Expected 17-21"),
+        ("class A { void f(final Integer x) { } }", "Expected 17-22"),
+        ("class A { void f() }", "Expected 19-20"),
+        ("class A { A() }", "Expected 14-15"),
+        ("class A { A(); }", "Expected 13-14"),
+        ("class A { A(1) { } }", "Expected 12-13"),
+        ("class A { void[] f() { } }", "Expected 14-15"),
+        ("class A { List<void> f() { } }", "Expected 15-19"),
+        ("class A { void f() { a } }", "Expected 23-24"),
+        ("class A { void static f() { } }", "Expected 15-21"),
+        ("class A { public void public f() { } }", "Expected 22-28"),
+        ("class A { A.B() { } }", "Expected 13-14"),
+        ("class A { A[]() { } }", "Expected 13-14"),
+        ("class A { List<A>() { } }", "Expected 17-18"),
+        ("class A { void f() { void g() { } } }", "Expected 21-25"),
+        ("class A { void f() { class B { } } }", "Expected 21-26"),
+        ("class A { class B { } }", "Expected 10-15"),
+        ("class A { interface B { } }", "Expected 10-19"),
+        ("class A { enum B { } }", "Expected 19-20"),
+        ("class A { static { } }", "Expected 17-18"),
+        ("class A { A() { } ; }", "Expected 18-19"),
+        ("class A { void f(Integer x { } }", "Expected 27-28"),
+        ("class A { void f Integer x) { } }", "Expected 17-24"),
+        ("class A { void if() { } }", "Expected 15-17"),
+        (
+            "class A { trigger T on A (before insert) { } }",
+            "Expected 20-22",
+        ),
+        ("class A { void f() { } } }", "Expected 25-26"),
     ];
     for (text, wanted) in rows {
-        let found = shown(rt.alloc(), text)?;
+        let found = class_shown(rt.alloc(), text)?;
         assert!(rt; found.as_str() == wanted, "{text}: {found}");
     }
     Ok(())
 }
 
 #[test]
-fn fors(rt: HostRuntime) -> Result<(), Fail> {
+fn interfaces(rt: HostRuntime) -> Result<(), Fail> {
     let rows = [
-        ("for (;;) a;", "for (;; ) {a.}"),
-        ("for (a; b; c) d;", "for (a; b; c) {d.}"),
+        ("interface A { }", "interface a"),
+        ("public interface A { }", "interface public a"),
         (
-            "for (A i = 0; i < 1; i++) d;",
-            "for (A i=0; i < 1; i++) {d.}",
+            "global interface A { void f(); }",
+            "interface global a | void f()",
         ),
-        ("for (A i = 0, j = 1; ; ) d;", "for (A i=0 j=1;; ) {d.}"),
-        ("for (A b : c) d;", "for (A b : c) {d.}"),
         (
-            "for (A b : [SELECT Id FROM A]) { }",
-            "for (A b : [SELECT Id FROM A]) {{}}",
+            "INTERFACE A { Integer f(A b, List<C> d); void g(); }",
+            "interface a | Integer f(A b, List<C> d) | void g()",
         ),
-        ("for (List<A> b : c.d()) ;", "for (List<A> b : c.d()) {;}"),
-        ("for (a = 1; ; a++) ;", "for (a = 1;; a++) {;}"),
-        ("for (; a; ) b;", "for (; a; ) {b.}"),
-        ("for (A.B c : d) e;", "for (A.B c : d) {e.}"),
-        ("for a;", "Expected 4-5"),
-        ("for () a;", "Expected 5-6"),
-        ("for (A b) c;", "Expected 8-9"),
-        ("for (A b; ;) c;", "Expected 8-9"),
-        ("for (A b = 1, c; ;) d;", "Expected 15-16"),
-        ("for (A b = 1 : c) d;", "Expected 13-14"),
-        ("for (a : b) c;", "Expected 7-8"),
-        ("for (;) a;", "Expected 6-7"),
-        ("for (;;;) a;", "Expected 7-8"),
-        ("for (;;) ", "Expected 9-9"),
-        ("for (A b : ) c;", "Expected 11-12"),
-        ("for (A b : c d) e;", "Expected 13-14"),
-        ("for (A b = 1, c : d; ;) e;", "Expected 16-17"),
+        (
+            "interface trigger { trigger on(); }",
+            "interface trigger | trigger on()",
+        ),
+        (
+            "interface A { A[] f(); Map<A, B> g(C d); }",
+            "interface a | A[] f() | Map<A, B> g(C d)",
+        ),
+        (
+            "interface A { on f(select g); }",
+            "interface a | on f(select g)",
+        ),
+        ("interface", "Expected 9-9"),
+        ("interface A", "Expected 11-11"),
+        ("interface A {", "Expected 13-13"),
+        ("public interface A { void f();", "Expected 30-30"),
+        ("private interface A { }", "Expected 0-7"),
+        ("public public interface A { }", "Expected 7-13"),
+        ("virtual interface A { }", "Expected 0-7"),
+        ("with sharing interface A { }", "Expected 0-4"),
+        ("interface A extends B { }", "Expected 12-19"),
+        ("interface { }", "Expected 10-11"),
+        ("interface A { Integer x; }", "Expected 23-24"),
+        ("interface A { void f() { } }", "Expected 23-24"),
+        ("interface A { public void f(); }", "Expected 14-20"),
+        ("interface A { void f() }", "Expected 23-24"),
+        ("interface A { void (); }", "Expected 19-20"),
+        ("interface A { A(); }", "Expected 15-16"),
+        ("interface A { void f();; }", "Expected 23-24"),
+        ("interface A { } ;", "Expected 16-17"),
+        ("interface A { } interface B { }", "Expected 16-25"),
+        ("interface A { void f(Integer); }", "Expected 28-29"),
+        ("interface A { static void f(); }", "Expected 14-20"),
+        ("interface A { void f(Integer x,); }", "Expected 31-32"),
+        ("interface A implements B { }", "Expected 12-22"),
+        ("abstract interface A { }", "Expected 0-8"),
+        ("interface A { Integer f { get; set; } }", "Expected 24-25"),
+        ("interface A { void f(); class B { } }", "Expected 24-29"),
+        ("a interface B { }", "Expected 0-1"),
     ];
     for (text, wanted) in rows {
-        let found = shown(rt.alloc(), text)?;
+        let found = class_shown(rt.alloc(), text)?;
         assert!(rt; found.as_str() == wanted, "{text}: {found}");
     }
     Ok(())
 }
 
 #[test]
-fn tries(rt: HostRuntime) -> Result<(), Fail> {
+fn triggers(rt: HostRuntime) -> Result<(), Fail> {
     let rows = [
-        ("try { a; } catch (E e) { b; }", "try {a.} catch E e {b.}"),
-        ("try { } finally { a; }", "try {} finally {a.}"),
         (
-            "try { } catch (E e) { } finally { }",
-            "try {} catch E e {} finally {}",
+            "trigger T on A (before insert) { }",
+            "t on a before insert { }",
         ),
         (
-            "try { } catch (A.E e) { } catch (F f) { }",
-            "try {} catch A.E e {} catch F f {}",
+            "trigger T on A (before update) { }",
+            "t on a before update { }",
         ),
         (
-            "try { } catch (System.E class_1) { }",
-            "try {} catch System.E class_1 {}",
+            "trigger T on A (before delete) { }",
+            "t on a before delete { }",
         ),
-        ("try { }", "Expected 7-7"),
-        ("try { } a;", "Expected 8-9"),
-        ("try a;", "Expected 4-5"),
-        ("try { } catch { }", "Expected 14-15"),
-        ("try { } catch (E) { }", "Expected 16-17"),
-        ("try { } catch (List<E> e) { }", "Expected 19-20"),
-        ("try { } catch (E e) a;", "Expected 20-21"),
-        ("try { } finally a;", "Expected 16-17"),
-        ("try { } finally { } catch (E e) { }", "Expected 20-25"),
-        ("catch (E e) { }", "Expected 0-5"),
-        ("try { } catch (E e, F f) { }", "Expected 18-19"),
-        ("try { } catch (E e { }", "Expected 19-20"),
-        ("finally { }", "Expected 0-7"),
-    ];
-    for (text, wanted) in rows {
-        let found = shown(rt.alloc(), text)?;
-        assert!(rt; found.as_str() == wanted, "{text}: {found}");
-    }
-    Ok(())
-}
-
-#[test]
-fn faults(rt: HostRuntime) -> Result<(), Fail> {
-    let rows = [
-        ("return", "Expected 6-6"),
-        ("return a b;", "Expected 9-10"),
-        ("break a;", "Expected 6-7"),
-        ("continue", "Expected 8-8"),
-        ("throw;", "Expected 5-6"),
-        ("insert;", "Expected 6-7"),
-        ("insert a", "Expected 8-8"),
-        ("upsert a b;", "Expected 9-10"),
-        ("this(1)", "Expected 7-7"),
-        ("super(;", "Expected 6-7"),
-        ("a", "Expected 1-1"),
-        ("a b", "Expected 3-3"),
-        ("5 a;", "Expected 2-3"),
-        (") a;", "Expected 0-1"),
-        ("a; )", "Expected 3-4"),
+        (
+            "trigger T on A (after insert) { }",
+            "t on a after insert { }",
+        ),
+        (
+            "trigger T on A (after update) { }",
+            "t on a after update { }",
+        ),
+        (
+            "trigger T on A (after delete) { }",
+            "t on a after delete { }",
+        ),
+        (
+            "TRIGGER T ON Account (BEFORE INSERT) { }",
+            "t on account before insert { }",
+        ),
+        (
+            "trigger T on A (before insert, after update) { a(); }",
+            "t on a before insert after update { a(); }",
+        ),
+        (
+            "trigger T on A (before insert, before insert, after delete) { }",
+            "t on a before insert before insert after delete { }",
+        ),
+        (
+            "trigger on on on (after /* x */ insert) { }",
+            "on on on after insert { }",
+        ),
+        (
+            "trigger trigger on before (before delete) { for (A a : Trigger.new) { } }",
+            "trigger on before before delete { for (A a : Trigger.new) { } }",
+        ),
+        (
+            "trigger T on Invoice__c (before insert) { Trigger.new[0].addError('no'); }",
+            "t on invoice__c before insert { Trigger.new[0].addError('no'); }",
+        ),
+        (
+            "trigger select on from (before insert) { }",
+            "select on from before insert { }",
+        ),
+        ("trigger T on A(before insert){}", "t on a before insert {}"),
+        (
+            "trigger T on A (after insert) { return; } // x",
+            "t on a after insert { return; }",
+        ),
+        ("", "Expected 0-0"),
+        ("trigger", "Expected 7-7"),
+        ("trigger T", "Expected 9-9"),
+        ("trigger T on", "Expected 12-12"),
+        ("trigger T on A", "Expected 14-14"),
+        ("trigger T on A (", "Expected 16-16"),
+        ("trigger T on A (before", "Expected 22-22"),
+        ("trigger T on A (before insert", "Expected 29-29"),
+        ("trigger T on A (before insert)", "Expected 30-30"),
+        ("trigger T on A (before insert) {", "Expected 32-32"),
+        ("trigger T on A (before insert) { a();", "Expected 37-37"),
+        ("public trigger T on A (before insert) { }", "Expected 0-6"),
         ("class A { }", "Expected 0-5"),
-        ("void a();", "Expected 0-4"),
-        ("public A b;", "Expected 0-6"),
-        ("a = 1, b = 2;", "Expected 5-6"),
-        ("this(1).a;", "Expected 7-8"),
-        ("new A();b", "Expected 9-9"),
-        ("@a;", "Expected 0-1"),
-        ("a;; }", "Expected 4-5"),
-        ("static A b;", "Expected 0-6"),
-        ("=> a;", "Expected 0-2"),
+        ("interface A { }", "Expected 0-9"),
+        ("trigger on A (before insert) { }", "Expected 11-12"),
+        ("trigger T A (before insert) { }", "Expected 10-11"),
+        ("trigger T on (before insert) { }", "Expected 13-14"),
+        ("trigger T on A before insert { }", "Expected 15-21"),
+        ("trigger T on A () { }", "Expected 16-17"),
+        ("trigger T on A (insert) { }", "Expected 16-22"),
+        ("trigger T on A (before) { }", "Expected 22-23"),
+        ("trigger T on A (before upsert) { }", "Expected 23-29"),
+        ("trigger T on A (after undelete) { }", "Expected 22-30"),
+        ("trigger T on A (before insert,) { }", "Expected 30-31"),
+        (
+            "trigger T on A (before insert after update) { }",
+            "Expected 30-35",
+        ),
+        (
+            "trigger T on A (before insert; after update) { }",
+            "Expected 29-30",
+        ),
+        ("trigger T on A (during insert) { }", "Expected 16-22"),
+        (
+            "trigger T on A (before before insert) { }",
+            "Expected 23-29",
+        ),
+        ("trigger T on A (before insert) ;", "Expected 31-32"),
+        ("trigger T on A (before insert) { } ;", "Expected 35-36"),
+        ("trigger T on A (before insert) { } }", "Expected 35-36"),
+        ("trigger T on A (before insert) { a }", "Expected 35-36"),
+        ("trigger T on A.B (before insert) { }", "Expected 14-15"),
+        (
+            "trigger T on A (before insert) { trigger U on B (after insert) { } }",
+            "Expected 43-45",
+        ),
+        ("trigger new on A (before insert) { }", "Expected 8-11"),
+        ("trigger T on class (before insert) { }", "Expected 13-18"),
+        (
+            "trigger T on A (before insert) void f() { }",
+            "Expected 31-35",
+        ),
+        ("trigger T on A, B (before insert) { }", "Expected 14-15"),
+        ("; trigger T on A (before insert) { }", "Expected 0-1"),
+        ("trigger T on A [before insert] { }", "Expected 15-16"),
+        (
+            "trigger T on A (before insert) { void f() { } }",
+            "Expected 33-37",
+        ),
+        (
+            "trigger T on A (before insert) { public Integer x; }",
+            "Expected 33-39",
+        ),
+        ("trigger 'T' on A (before insert) { }", "Expected 8-11"),
+        ("trigger T on A (before insert)) { }", "Expected 30-31"),
+        ("@isTest trigger T on A (before insert) { }", "Expected 0-1"),
     ];
     for (text, wanted) in rows {
-        let found = shown(rt.alloc(), text)?;
+        let found = trigger_shown(rt.alloc(), text)?;
         assert!(rt; found.as_str() == wanted, "{text}: {found}");
     }
     Ok(())
 }
 
-// A beginning so many times, a word, and an end as often.
-fn repeated(
+#[test]
+fn kinds(rt: HostRuntime) -> Result<(), Fail> {
+    let rows = [
+        ("", UnitKind::Class),
+        ("a b", UnitKind::Class),
+        ("class", UnitKind::Class),
+        ("public interface A", UnitKind::Interface),
+        ("trigger T on A", UnitKind::Trigger),
+        ("a.trigger class", UnitKind::Trigger),
+        ("interface class trigger", UnitKind::Interface),
+        ("'trigger' class interface", UnitKind::Class),
+        ("( INTERFACE", UnitKind::Interface),
+        ("triggers interfaces classes", UnitKind::Class),
+    ];
+    for (text, wanted) in rows {
+        let Ok(tokens) = lex(rt.alloc(), text.as_bytes()) else {
+            return Err(Fail::from("no tokens"));
+        };
+        assert_eq!(rt; unit_kind(tokens.as_slice()), wanted, "{text}");
+    }
+    Ok(())
+}
+
+// A text with so many open forms in it: braces of a class and a method count as two.
+fn deep(
     alloc: Global,
-    begin: &str,
-    word: &str,
-    end: &str,
-    times: usize,
+    before: &str,
+    open: &str,
+    count: usize,
+    behind: &str,
 ) -> Result<String, AllocError> {
-    let mut text = String::new(alloc);
-    for _ in 0..times {
-        add(&mut text, begin)?;
+    let mut text = String::from_str(alloc, before)?;
+    for _ in 0..count {
+        add(&mut text, open)?;
     }
-    add(&mut text, word)?;
-    for _ in 0..times {
-        add(&mut text, end)?;
-    }
+    add(&mut text, behind)?;
     Ok(text)
 }
 
-// Whether a text is a block, or its fault.
-fn read(alloc: Global, text: &str) -> Result<String, AllocError> {
+// The kind of the fault and the place in the text where it stands, behind what stands before the opened forms.
+fn fault_at(
+    alloc: Global,
+    text: &str,
+    before: &str,
+) -> Result<Option<(String, usize)>, AllocError> {
     let Ok(tokens) = lex(alloc, text.as_bytes()) else {
-        return format!(in alloc; "no tokens");
+        return Ok(None);
     };
-    match anonymous_unit(alloc, tokens.as_slice()) {
-        Ok(_) => format!(in alloc; "read"),
-        Err(fault) => fault_shown(alloc, fault),
-    }
-}
-
-// A statement may stand in 64 others, and no more.
-#[test]
-fn deep(rt: HostRuntime) -> Result<(), Fail> {
-    let alloc = rt.alloc();
-    let rows = [
-        ("{ ", "a;", " }", "TooDeep 128-129"),
-        ("do ", "a;", " while (b);", "TooDeep 195-196"),
-        ("while (a) ", "b;", "", "TooDeep 646-647"),
-        ("if (a) ", "b;", "", "TooDeep 451-452"),
-        ("if (a) ; else ", "b;", "", "TooDeep 899-900"),
-        ("for (;;) ", "b;", "", "TooDeep 580-581"),
-    ];
-    for (begin, word, end, fault) in rows {
-        let text = repeated(alloc, begin, word, end, 64)?;
-        let found = read(alloc, text.as_str())?;
-        assert!(rt; found.as_str() == "read", "64 times {begin}: {found}");
-        let text = repeated(alloc, begin, word, end, 65)?;
-        let found = read(alloc, text.as_str())?;
-        assert!(rt; found.as_str() == fault, "65 times {begin}: {found}");
-    }
-    Ok(())
-}
-
-// What stands behind 64 or 65 forms, and where its fault is.
-#[test]
-fn deep_mixed(rt: HostRuntime) -> Result<(), Fail> {
-    let alloc = rt.alloc();
-    let rows = [
-        ("do ", 65, ";", "TooDeep 195-196"),
-        ("do ", 65, ")", "Expected 195-196"),
-        ("do ", 64, ")", "Expected 192-193"),
-        ("{ ", 64, "a(1", "TooDeep 129-130"),
-        ("{ ", 64, "- 1;", "TooDeep 128-129"),
-        ("{ ", 64, "List<A> b;", "TooDeep 132-133"),
-        ("{ ", 64, "A b = 1;", "Expected 136-136"),
-        ("{ ", 63, "(a) = 1;", "Expected 134-134"),
-        ("{ ", 64, "a = 1;", "TooDeep 130-131"),
-        ("while (a) ", 64, "{", "Expected 641-641"),
-        ("while (a) ", 64, "if (b", "TooDeep 643-644"),
-        ("while (a) ", 65, "}", "TooDeep 646-647"),
-        ("{ ", 64, "if (a", "TooDeep 131-132"),
-        ("{ ", 64, "try {", "TooDeep 132-133"),
-        ("{ ", 64, "return 1;", "Expected 137-137"),
-    ];
-    for (begin, times, rest, wanted) in rows {
-        let text = repeated(alloc, begin, rest, "", times)?;
-        let found = read(alloc, text.as_str())?;
-        assert!(rt; found.as_str() == wanted, "{begin}: {found}");
-    }
-    Ok(())
-}
-
-// A statement that stands alone: its place behind, where so many forms may be open.
-#[test]
-fn single(rt: HostRuntime) -> Result<(), Fail> {
-    let alloc = rt.alloc();
-    let Ok(tokens) = lex(alloc, b"{ a; } b;") else {
-        panic!(rt; "no tokens");
+    let unit = if text.starts_with("trigger") {
+        trigger_unit(alloc, tokens.as_slice())
+    } else {
+        class_unit(alloc, tokens.as_slice())
     };
-    let tokens = tokens.as_slice();
-    let Ok((Stmt::Block(body), 4)) = stmt_within(alloc, tokens, 0, 1) else {
-        panic!(rt; "no block");
-    };
-    assert!(rt; body.span == Span { from: 0, to: 6 });
-    match stmt_within(alloc, tokens, 0, 0) {
-        Ok(_) => panic!(rt; "a block in no room"),
-        Err(stop) => {
-            let found = fault_shown(alloc, fault_of(tokens, stop))?;
-            assert!(rt; found.as_str() == "TooDeep 0-1", "{found}");
+    match unit {
+        Ok(_) => Ok(None),
+        Err(ParseFault::Wrong(word, span)) => {
+            let word = format!(in alloc; "{word}")?;
+            Ok(Some((word, span.from.saturating_sub(before.len()))))
         }
+        Err(ParseFault::NoMemory) => Err(AllocError),
     }
+}
+
+#[test]
+fn nesting(rt: HostRuntime) -> Result<(), Fail> {
+    let alloc = rt.alloc();
+    // what stands before, what opens, how often it may stand there, its length
+    let rows = [
+        ("class A { Integer x = ", "(", 63),
+        ("class A { void f() ", "{", 63),
+        ("class A { ", "List<", 63),
+        ("class A { A[] x = ", "!", 63),
+        ("class A { void f(", "List<", 62),
+        ("class A { void f() { ", "if (a) ", 62),
+        ("interface A { void f(", "List<", 62),
+        ("trigger T on A (before insert) ", "{", 64),
+        ("trigger T on A (before insert) { x = ", "(", 62),
+    ];
+    for (before, open, most) in rows {
+        let fine = deep(alloc, before, open, most, "@")?;
+        let found = fault_at(alloc, fine.as_str(), before)?.ok_or("no fault")?;
+        assert!(rt; found.0.as_str() == "Expected", "{fine}");
+        assert_eq!(rt; found.1, most * open.len(), "{fine}");
+        let over = deep(alloc, before, open, most + 1, "@")?;
+        let found = fault_at(alloc, over.as_str(), before)?.ok_or("no fault")?;
+        // the last sign of what opens: of `if`, its parenthesis
+        let back = if open == "if (a) " { 4 } else { 1 };
+        let place = (most + 1) * open.len() - back;
+        assert!(rt; found.0.as_str() == "TooDeep", "{over}");
+        assert_eq!(rt; found.1, place, "{over}");
+    }
+    Ok(())
+}
+
+#[test]
+fn spans(rt: HostRuntime) -> Result<(), Fail> {
+    let text = " public with sharing class A { private Integer x ; void f ( A b ) { } } ";
+    let Ok(tokens) = lex(rt.alloc(), text.as_bytes()) else {
+        return Err(Fail::from("no tokens"));
+    };
+    let Ok(Unit::Class(tree)) = class_unit(rt.alloc(), tokens.as_slice()) else {
+        return Err(Fail::from("no class"));
+    };
+    assert_eq!(rt;
+        tree.span,
+        Span {
+            from: 1,
+            to: text.len() - 1
+        }
+    );
+    let [public, sharing] = tree.modifiers.as_slice() else {
+        return Err(Fail::from("two modifiers"));
+    };
+    assert_eq!(rt; public.span, Span { from: 1, to: 7 });
+    assert_eq!(rt; sharing.span, Span { from: 8, to: 20 });
+    let [
+        MemberTree::Field(field, ..),
+        MemberTree::Method(method, _, answer, _, params, _),
+    ] = tree.members.as_slice()
+    else {
+        return Err(Fail::from("two members"));
+    };
+    assert!(rt; text.get(field.from..field.to) == Some("private Integer x ;"));
+    assert!(rt; text.get(method.from..method.to) == Some("void f ( A b ) { }"));
+    let ResultTree::Void(void) = answer else {
+        return Err(Fail::from("void"));
+    };
+    assert!(rt; text.get(void.from..void.to) == Some("void"));
+    let [param] = params.as_slice() else {
+        return Err(Fail::from("one parameter"));
+    };
+    assert!(rt; text.get(param.span.from..param.span.to) == Some("A b"));
     Ok(())
 }

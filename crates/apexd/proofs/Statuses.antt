@@ -7,7 +7,8 @@ use Rattle.stack_code.specs.declared.code.Image.{Image}
 use Rattle.small_block.specs.SmallBlocks.{IsSmallBlock}
 use Rattle.apexd.specs.declared.exec.Answer.{Answer}
 use Rattle.apexd.specs.declared.exec.Answer.TheVariants.{Done, ReadFault, WriteFault, NoMemory, TooLong, Refused}
-use Rattle.apexd.specs.Answers.{most_bytes, status_of, refused_line, ReadWhole, IsRefused, Seen, Cause, IsFine, Execs}
+use Rattle.apexd.specs.Refusals.{TellsWhy}
+use Rattle.apexd.specs.Answers.{most_bytes, status_of, ReadWhole, IsRefused, Seen, Cause, IsFine, Execs}
 
 -- what was read whole are the bytes that were told
 whole_told : (left later : Option (List ℕ)) (read bytes : List ℕ) → ReadWhole left later read → left ≡ Some bytes → read ≡ bytes
@@ -30,9 +31,9 @@ outgrown (Some l) (Some rest) bytes o e =
     let k = o.1 in
     omega arith
 
-pub refused_of : (read bytes : List ℕ) (image old : Option Image) → read ≡ bytes → ((block : Block) → IsSmallBlock read block → ⊥) → image ≡ old → old ≡ None → IsRefused bytes image refused_line
-refused_of read bytes image old e n i o =
-    record { none = λ block b. n block (subst (λ x. IsSmallBlock x block) (sym e) b); nothing_kept = i ∙ o; line = refl }
+pub refused_of : (read bytes text : List ℕ) (image old : Option Image) → read ≡ bytes → ((block : Block) → IsSmallBlock read block → ⊥) → image ≡ old → old ≡ None → TellsWhy bytes text → IsRefused bytes image text
+refused_of read bytes text image old e n i o w =
+    record { none = λ block b. n block (subst (λ x. IsSmallBlock x block) (sym e) b); nothing_kept = i ∙ o; why = w }
 
 module _ (s : Seen) (status : ℕ) where
   complete_of : (a : Answer) → status ≡ status_of a → Cause a s → (bytes : List ℕ) → IsFine bytes s → (block : Block) → IsSmallBlock bytes block → (status ≡ 0) ⊎ (status ≡ 5)

@@ -1,5 +1,5 @@
 -- What the answers of `exec` say (docs/promises.md).
-use Rattle.std.specs.Prelude.{◌≡◌, ℕ, ◌-◌, ◌^◌, ◌<◌, ◌≤◌, ◌⊎◌, min, List, [], ◌∷◌, ◌++◌, length, Option, Some, None, codes}
+use Rattle.std.specs.Prelude.{◌≡◌, ℕ, ◌-◌, ◌^◌, ◌<◌, ◌≤◌, ◌⊎◌, min, List, length, Option, Some, None}
 use Rattle.apex_io.specs.Outside.{Rose, Takes, IsAtEnd, Adds, Outgrows}
 use Rattle.apex_io.specs.Whole.{WriteCause}
 use Rattle.apex_syntax.specs.declared.typed.Block.{Block}
@@ -11,6 +11,7 @@ use Rattle.small_block.specs.SmallBlocks.{IsSmallBlock}
 use Rattle.apexd.specs.declared.exec.Answer.{Answer}
 use Rattle.apexd.specs.declared.exec.Answer.TheVariants.{Done, ReadFault, WriteFault, NoMemory, TooLong, Refused}
 use Rattle.apexd.specs.Printing.{reply_text}
+use Rattle.apexd.specs.Refusals.{TellsWhy}
 
 -- the most bytes that are read
 abbrev pub most_bytes : ℕ
@@ -37,14 +38,11 @@ pub record Replied (bytes : List ℕ) (image : Option Image) (text : List ℕ) :
   pub machine : Ends kept (start kept) ops (run block)
   pub prints : text ≡ reply_text (run block) (min ops (2 ^ 64 - 1))
 
-abbrev pub refused_line : List ℕ
-refused_line = codes "refused block 1:1 NotYet" ++ 10 ∷ []
-
--- the bytes are no small block, and this is the line that says so
+-- the bytes are no small block, and the line tells why they aren't run
 pub record IsRefused (bytes : List ℕ) (image : Option Image) (text : List ℕ) : Type 0 where
   pub none : (block : Block) → IsSmallBlock bytes block → ⊥
   pub nothing_kept : image ≡ None
-  pub line : text ≡ refused_line
+  pub why : TellsWhy bytes text
 
 -- the source was read to its end, within the limit
 pub record ReadWhole (left later : Option (List ℕ)) (bytes : List ℕ) : Type 0 where

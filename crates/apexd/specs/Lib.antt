@@ -1,3 +1,4 @@
 pub mod Printing
+pub mod Refusals
 pub mod Answers
 pub mod Commands

@@ -7,9 +7,10 @@ ghost use Rattle.apex_io.specs.declared.whole.ReadFault.TheVariants.{Failed as R
 ghost use Rattle.small_block.specs.SmallBlocks.{IsSmallBlock};
 ghost use Rattle.apex_io.specs.Outside.{Adds};
 ghost use Rattle.apex_io.specs.Whole.{WriteCause};
-ghost use Rattle.apexd.specs.Answers.{status_of, most_bytes, Replied, IsRefused, refused_line, Seen, Cause, Execs};
+ghost use Rattle.apexd.specs.Answers.{status_of, most_bytes, Replied, IsRefused, Seen, Cause, Execs};
 
 use crate::print::reply_text;
+use crate::refuse::refusal;
 use apex_io::{ReadFault, Sink, Source, read_all, write_all};
 use metered_vm::run_image;
 use small_block::read_block;
@@ -19,8 +20,6 @@ use std::alloc::{AllocError, Global};
 
 /// The most bytes that a command reads: 64 MiB.
 pub const MOST_BYTES: usize = 67_108_864;
-
-const REFUSED: &[u8] = b"refused block 1:1 NotYet\n";
 
 // How a command ends.
 #[derive(Clone, Copy, Debug, PartialEq, Eq, Drop)]
@@ -49,7 +48,8 @@ fn status(answer: Answer) -> u8
 /// Runs the block that the source gives, keeps its compiled code in `image`, and writes the counts line and the
 /// debug lines to the sink. The status is 0 for that, 2 where the source failed, 4 where the sink failed, 5
 /// where memory was refused, 6 where the source gives more than 67,108,864 bytes, and 7 where they are no small
-/// block; then the line `refused block 1:1 NotYet` is written.
+/// block; then a line is written that tells their first fault and its line and column, both from 1, or
+/// `refused block 1:1 NotYet` where they are a block of the whole grammar.
 pub fn exec_text<S: Source, K: Sink>(
     alloc: Global,
     source: &mut S,
@@ -89,9 +89,12 @@ fn exec<S: Source, K: Sink>(
             Ok(()) => Answer::Done,
             Err(_) => Answer::WriteFault,
         },
-        Ok(None) => match write_all(sink, REFUSED) {
-            Ok(()) => Answer::Refused,
-            Err(_) => Answer::WriteFault,
+        Ok(None) => match refusal(alloc, &bytes) {
+            Err(_) => Answer::NoMemory,
+            Ok(line) => match write_all(sink, &line) {
+                Ok(()) => Answer::Refused,
+                Err(_) => Answer::WriteFault,
+            },
         },
     }
 }

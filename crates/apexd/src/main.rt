@@ -4,6 +4,7 @@
 mod command;
 mod exec;
 mod print;
+mod refuse;
 #[cfg(test)]
 mod tests;
 

@@ -198,51 +198,75 @@ fn small_blocks(rt: HostRuntime) -> Result<(), Fail> {
 #[test]
 fn other_texts(rt: HostRuntime) -> Result<(), Fail> {
     let rows = [
-        "Long x = 1L;",
-        "Integer integer = 1; System.debug((integer) - 1);",
-        "Integer id = 1; System.debug(2 * (ID));",
-        "System.debug((Integer) 1);",
-        "System.debug(1)",
-        "System.debug();",
-        "System.debug(1;",
-        "System.debug 1);",
-        "System.debug(1));",
-        "debug(1);",
-        "System.debug(x);",
-        "Integer x;",
-        "Integer x = x;",
-        "Integer x = 1; Integer X = 2;",
-        "Integer System = 1; System.debug(1);",
-        "Integer if = 1;",
-        "System.debug(2147483648);",
-        "System.debug(99999999999);",
-        "System.debug(1.5);",
-        "System.debug(1L);",
-        "System.debug(1 == 1);",
-        "System.debug(1++2);",
-        "System.debug(+1);",
-        "System.debug('a');",
-        "Integer x = 1; x = 2;",
-        "Integer 1x = 1;",
-        "Integer _x = 1;",
-        "/* no end",
-        "System.debug(1); \u{e9}",
+        ("Long x = 1L;", "1:1 NotYet"),
+        (
+            "Integer integer = 1; System.debug((integer) - 1);",
+            "1:1 NotYet",
+        ),
+        ("Integer id = 1; System.debug(2 * (ID));", "1:38 Expected"),
+        ("System.debug((Integer) 1);", "1:1 NotYet"),
+        ("System.debug(1)", "1:16 Expected"),
+        ("System.debug();", "1:1 NotYet"),
+        ("System.debug(1;", "1:15 Expected"),
+        ("System.debug 1);", "1:14 Expected"),
+        ("System.debug(1));", "1:16 Expected"),
+        ("debug(1);", "1:1 NotYet"),
+        ("System.debug(x);", "1:1 NotYet"),
+        ("Integer x;", "1:1 NotYet"),
+        ("Integer x = x;", "1:1 NotYet"),
+        ("Integer x = 1; Integer X = 2;", "1:1 NotYet"),
+        ("Integer System = 1; System.debug(1);", "1:1 NotYet"),
+        ("Integer if = 1;", "1:9 Expected"),
+        ("System.debug(2147483648);", "1:14 WideLiteral"),
+        ("System.debug(99999999999);", "1:14 WideLiteral"),
+        ("System.debug(1.5);", "1:1 NotYet"),
+        ("System.debug(1L);", "1:1 NotYet"),
+        ("System.debug(1 == 1);", "1:1 NotYet"),
+        ("System.debug(1++2);", "1:17 Expected"),
+        ("System.debug(+1);", "1:14 Expected"),
+        ("System.debug('a');", "1:1 NotYet"),
+        ("System.debug('a);", "1:14 OpenText"),
+        ("Integer x = 1; x = 2;", "1:1 NotYet"),
+        ("Integer 1x = 1;", "1:9 Expected"),
+        ("Integer _x = 1;", "1:9 BadChar"),
+        ("/* no end", "1:1 OpenComment"),
+        ("System.debug(1); \u{e9}", "1:18 BadChar"),
+        ("System.debug(1);\n\n  }", "3:3 Expected"),
+        (
+            "System.debug(1);\r\n/*\n*/ Integer x = 1;;\n(",
+            "4:2 Expected",
+        ),
+        ("if (a) { b; }", "1:1 NotYet"),
+        ("while (true) { }", "1:1 NotYet"),
+        ("class A { }", "1:1 Expected"),
+        ("try { }", "1:8 Expected"),
+        (
+            "List<RowShare> l = [SELECT Id FROM RowShare WHERE Id = null AND Level = 'a' OR Level = 'b'];",
+            "1:77 MixedAndOr",
+        ),
+        (
+            "Object o = [SELECT Id FROM A ORDER BY Id FOR UPDATE];",
+            "1:42 LockedOrder",
+        ),
+        (
+            "Object o = [SELECT A.B.C.D.E.F.G FROM A];",
+            "1:20 TooManyLevels",
+        ),
     ];
-    for text in rows {
+    for (text, why) in rows {
         let came = exec(rt.alloc(), text)?;
-        assert_eq!(rt; came.text.as_slice(), REFUSED.as_bytes(), "{text}");
+        let wanted = format!(in rt.alloc(); "refused block {why}\n")?;
+        assert_eq!(rt; came.text.as_slice(), wanted.as_bytes(), "{text}");
         assert_eq!(rt; came.status, 7, "{text}");
         assert!(rt; !came.kept, "{text}");
     }
-    let came = run(
-        rt.alloc(),
-        Vec::from_slice(rt.alloc(), &[255])?,
-        1,
-        1,
-        &[],
-        &[],
-    )?;
+    let byte = Vec::from_slice(rt.alloc(), &[255])?;
+    let came = run(rt.alloc(), byte, 1, 1, &[], &[])?;
     assert_eq!(rt; came.status, 7);
+    assert_eq!(rt;
+        came.text.as_slice(),
+        b"refused block 1:1 NotUtf8\n".as_slice()
+    );
     Ok(())
 }
 
@@ -267,6 +291,12 @@ fn nesting(rt: HostRuntime) -> Result<(), Fail> {
         let round = nested(rt.alloc(), "(", ")", n)?;
         let came = run(rt.alloc(), round, 4096, 4096, &[], &[])?;
         assert_eq!(rt; came.status, status, "{n} parentheses");
+        if status == 7 {
+            assert_eq!(rt;
+                came.text.as_slice(),
+                b"refused block 1:77 TooDeep\n".as_slice()
+            );
+        }
         let minus = nested(rt.alloc(), "- ", "", n)?;
         let came = run(rt.alloc(), minus, 4096, 4096, &[], &[])?;
         assert_eq!(rt; came.status, status, "{n} signs");

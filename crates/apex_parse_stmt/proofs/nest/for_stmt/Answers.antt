@@ -1,0 +1,11 @@
+use Rattle.token_grammar.proofs.Chain.{next, halt, past, here, since, gives, raised}
+use Rattle.apex_parse_stmt.proofs.nest.for_stmt.Goals as goal
+
+pub returns-in_err-head : goal.returns-in_err-head
+returns-in_err-head g c = raised c.from_residual-in_err-head.ensures (here (past c.in_ok-behind.ensures (halt c.in_err-head.ensures)))
+
+pub returns-in_err-inner : goal.returns-in_err-inner
+returns-in_err-inner g c = raised c.from_residual-in_err-inner.ensures (here (past c.in_ok-behind.ensures (next c.in_ok-head.ensures (halt c.in_err-inner.ensures))))
+
+pub returns : goal.returns
+returns g c = rw c.for_tree.ensures (rw c.span_of-span.ensures (here (past c.in_ok-behind.ensures (next c.in_ok-head.ensures (next c.in_ok-inner.ensures (since gives))))))

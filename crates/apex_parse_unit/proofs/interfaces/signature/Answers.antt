@@ -1,0 +1,14 @@
+use Rattle.token_grammar.proofs.Chain.{next, halt, past, stuck, here, since, gives, raised}
+use Rattle.apex_parse_unit.proofs.interfaces.signature.Goals as goal
+
+pub returns-in_err-name : goal.returns-in_err-name
+returns-in_err-name c = raised c.from_residual-in_err-name.ensures (here (next c.in_ok-answer.ensures (halt c.in_err-name.ensures)))
+
+pub returns-in_err-params : goal.returns-in_err-params
+returns-in_err-params c = raised c.from_residual-in_err-params.ensures (here (next c.in_ok-answer.ensures (next c.in_ok-name.ensures (halt c.in_err-params.ensures))))
+
+pub returns-in_err-end : goal.returns-in_err-end
+returns-in_err-end c = raised c.from_residual-in_err-end.ensures (here (next c.in_ok-answer.ensures (next c.in_ok-name.ensures (next c.in_ok-params.ensures (stuck c.in_err-end.ensures)))))
+
+pub returns : goal.returns
+returns c = rw c.span_of-span.ensures (here (next c.in_ok-answer.ensures (next c.in_ok-name.ensures (next c.in_ok-params.ensures (past c.in_ok-end.ensures (since gives))))))

@@ -1,0 +1,5 @@
+use Rattle.token_grammar.proofs.Chain.{next, halt, here, raised}
+use Rattle.apex_parse_unit.proofs.members.member.Goals as goal
+
+pub returns-in_err-body : goal.returns-in_err-body
+returns-in_err-body c = raised c.from_residual-in_err-body.ensures (here (next c.in_ok-modifiers.ensures (halt c.in_err-body.ensures)))

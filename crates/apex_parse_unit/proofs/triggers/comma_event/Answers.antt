@@ -1,0 +1,5 @@
+use Rattle.token_grammar.proofs.Chain.{past}
+use Rattle.apex_parse_unit.proofs.triggers.comma_event.Goals as goal
+
+pub returns : goal.returns
+returns c = past c.in_ok-behind.ensures c.event.ensures
