@@ -16,4 +16,6 @@ pub use kind::{UnitKind, unit_kind};
 pub use whole::{class_unit, trigger_unit};
 
 #[cfg(test)]
+mod shown;
+#[cfg(test)]
 mod tests;

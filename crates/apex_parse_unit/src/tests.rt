@@ -1,227 +1,14 @@
 // Units with their trees, or their first fault with the bytes where it stands, as the rules of docs/language.md give
-// them. Of a tree its names, words and parts are shown; types, values and bodies are shown as their bytes in the text.
+// them.
 
+use crate::shown::{add, shown};
 use crate::{UnitKind, class_unit, trigger_unit, unit_kind};
 use apex_lexer::lex;
-use apex_syntax::{
-    Body, ClassTree, ClassWord, EventOp, EventTree, Expr, InterfaceTree, MemberTree, MemberWord,
-    ParamTree, ResultTree, SignatureTree, TriggerTree, TypeTree, Unit, Word,
-};
+use apex_syntax::{MemberTree, ResultTree, Unit};
 use apex_text::Span;
 use std::alloc::{AllocError, Global};
 use std::test::Fail;
 use token_grammar::ParseFault;
-
-fn add(out: &mut String, text: &str) -> Result<(), AllocError> {
-    out.push_str(text)?;
-    Ok(())
-}
-
-fn add_span(out: &mut String, text: &str, span: Span) -> Result<(), AllocError> {
-    add(out, text.get(span.from..span.to).unwrap_or("?"))
-}
-
-fn add_word(out: &mut String, word: &Word) -> Result<(), AllocError> {
-    add(out, str::from_utf8(word.name.bytes()).unwrap_or("?"))
-}
-
-fn member_word(word: MemberWord) -> &'static str {
-    match word {
-        MemberWord::Public => "public ",
-        MemberWord::Global => "global ",
-        MemberWord::Private => "private ",
-        MemberWord::Protected => "protected ",
-        MemberWord::Static => "static ",
-        MemberWord::Final => "final ",
-        MemberWord::Virtual => "virtual ",
-        MemberWord::Abstract => "abstract ",
-        MemberWord::Override => "override ",
-    }
-}
-
-fn class_word(word: ClassWord) -> &'static str {
-    match word {
-        ClassWord::Public => "public ",
-        ClassWord::Global => "global ",
-        ClassWord::Private => "private ",
-        ClassWord::Virtual => "virtual ",
-        ClassWord::Abstract => "abstract ",
-        ClassWord::WithSharing => "sharing ",
-        ClassWord::WithoutSharing => "unshared ",
-        ClassWord::InheritedSharing => "inherited ",
-    }
-}
-
-fn span_of(tree: &Expr) -> Span {
-    match tree {
-        Expr::Literal(span, _)
-        | Expr::This(span)
-        | Expr::Super(span)
-        | Expr::Call(span, _, _)
-        | Expr::Paren(span, _)
-        | Expr::New(span, _, _)
-        | Expr::Query(span, _)
-        | Expr::Postfix(span, _, _)
-        | Expr::Prefix(span, _, _)
-        | Expr::Cast(span, _, _)
-        | Expr::Chain(span, _, _)
-        | Expr::Conditional(span, _, _, _)
-        | Expr::Assign(span, _, _, _) => *span,
-        Expr::Name(word) => word.span,
-    }
-}
-
-// A type and a name.
-fn add_named(out: &mut String, text: &str, kind: &TypeTree, name: &Word) -> Result<(), AllocError> {
-    add_span(out, text, kind.span)?;
-    add(out, " ")?;
-    add_word(out, name)
-}
-
-fn add_params(out: &mut String, text: &str, params: &[ParamTree]) -> Result<(), AllocError> {
-    add(out, "(")?;
-    for (i, param) in params.iter().enumerate() {
-        add(out, if i == 0 { "" } else { ", " })?;
-        add_named(out, text, &param.kind, &param.name)?;
-    }
-    add(out, ")")
-}
-
-fn add_result(out: &mut String, text: &str, answer: &ResultTree) -> Result<(), AllocError> {
-    match answer {
-        ResultTree::Void(_) => add(out, "void "),
-        ResultTree::Type(kind) => {
-            add_span(out, text, kind.span)?;
-            add(out, " ")
-        }
-    }
-}
-
-fn add_body(out: &mut String, text: &str, body: Option<&Body>) -> Result<(), AllocError> {
-    match body {
-        Some(body) => add_span(out, text, body.span),
-        None => add(out, ";"),
-    }
-}
-
-fn add_value(out: &mut String, text: &str, value: Option<&Expr>) -> Result<(), AllocError> {
-    match value {
-        Some(tree) => {
-            add(out, "=")?;
-            add_span(out, text, span_of(tree))
-        }
-        None => Ok(()),
-    }
-}
-
-fn add_member(out: &mut String, text: &str, member: &MemberTree) -> Result<(), AllocError> {
-    let (MemberTree::Field(_, modifiers, ..)
-    | MemberTree::Property(_, modifiers, ..)
-    | MemberTree::Method(_, modifiers, ..)
-    | MemberTree::Constructor(_, modifiers, ..)) = member;
-    for modifier in modifiers.as_slice() {
-        add(out, member_word(modifier.word))?;
-    }
-    match member {
-        MemberTree::Field(_, _, kind, name, value) => {
-            add_named(out, text, kind, name)?;
-            add_value(out, text, value.as_ref().map(|tree| tree.get()))
-        }
-        MemberTree::Property(_, _, kind, name) => {
-            add_named(out, text, kind, name)?;
-            add(out, "{}")
-        }
-        MemberTree::Method(_, _, answer, name, params, body) => {
-            add_result(out, text, answer)?;
-            add_word(out, name)?;
-            add_params(out, text, params.as_slice())?;
-            add_body(out, text, body.as_ref())
-        }
-        MemberTree::Constructor(_, _, name, params, body) => {
-            add(out, "new ")?;
-            add_word(out, name)?;
-            add_params(out, text, params.as_slice())?;
-            add_body(out, text, Some(body))
-        }
-    }
-}
-
-fn add_class(out: &mut String, text: &str, tree: &ClassTree) -> Result<(), AllocError> {
-    for modifier in tree.modifiers.as_slice() {
-        add(out, class_word(modifier.word))?;
-    }
-    add_word(out, &tree.name)?;
-    if let Some(parent) = &tree.parent {
-        add(out, " < ")?;
-        add_word(out, parent)?;
-    }
-    for name in tree.interfaces.as_slice() {
-        add(out, " + ")?;
-        add_word(out, name)?;
-    }
-    for member in tree.members.as_slice() {
-        add(out, " | ")?;
-        add_member(out, text, member)?;
-    }
-    Ok(())
-}
-
-fn add_signature(out: &mut String, text: &str, tree: &SignatureTree) -> Result<(), AllocError> {
-    add(out, " | ")?;
-    add_result(out, text, &tree.result)?;
-    add_word(out, &tree.name)?;
-    add_params(out, text, tree.params.as_slice())
-}
-
-fn add_interface(out: &mut String, text: &str, tree: &InterfaceTree) -> Result<(), AllocError> {
-    add(out, "interface ")?;
-    if let Some(modifier) = &tree.modifier {
-        add(out, class_word(modifier.word))?;
-    }
-    add_word(out, &tree.name)?;
-    for method in tree.methods.as_slice() {
-        add_signature(out, text, method)?;
-    }
-    Ok(())
-}
-
-fn event_word(event: &EventTree) -> &'static str {
-    match (event.after, event.op) {
-        (false, EventOp::Insert) => " before insert",
-        (false, EventOp::Update) => " before update",
-        (false, EventOp::Delete) => " before delete",
-        (true, EventOp::Insert) => " after insert",
-        (true, EventOp::Update) => " after update",
-        (true, EventOp::Delete) => " after delete",
-    }
-}
-
-fn add_trigger(out: &mut String, text: &str, tree: &TriggerTree) -> Result<(), AllocError> {
-    add_word(out, &tree.name)?;
-    add(out, " on ")?;
-    add_word(out, &tree.object)?;
-    for event in tree.events.as_slice() {
-        add(out, event_word(event))?;
-    }
-    add(out, " ")?;
-    add_span(out, text, tree.body.span)
-}
-
-fn shown(alloc: Global, text: &str, unit: Result<Unit, ParseFault>) -> Result<String, AllocError> {
-    let mut out = String::new(alloc);
-    match unit {
-        Ok(Unit::Class(tree)) => add_class(&mut out, text, &tree)?,
-        Ok(Unit::Interface(tree)) => add_interface(&mut out, text, &tree)?,
-        Ok(Unit::Trigger(tree)) => add_trigger(&mut out, text, &tree)?,
-        Ok(Unit::Block(_)) => add(&mut out, "a block")?,
-        Err(ParseFault::Wrong(word, span)) => {
-            let Span { from, to } = span;
-            write!(out, "{word} {from}-{to}")?;
-        }
-        Err(ParseFault::NoMemory) => return Err(AllocError),
-    }
-    Ok(out)
-}
 
 fn class_shown(alloc: Global, text: &str) -> Result<String, AllocError> {
     let Ok(tokens) = lex(alloc, text.as_bytes()) else {
@@ -812,12 +599,13 @@ fn nesting(rt: HostRuntime) -> Result<(), Fail> {
         let fine = deep(alloc, before, open, most, "@")?;
         let found = fault_at(alloc, fine.as_str(), before)?.ok_or("no fault")?;
         assert!(rt; found.0.as_str() == "Expected", "{fine}");
-        assert_eq!(rt; found.1, most * open.len(), "{fine}");
-        let over = deep(alloc, before, open, most + 1, "@")?;
+        assert_eq!(rt; found.1, open.len().saturating_mul(most), "{fine}");
+        let more = most.saturating_add(1);
+        let over = deep(alloc, before, open, more, "@")?;
         let found = fault_at(alloc, over.as_str(), before)?.ok_or("no fault")?;
         // the last sign of what opens: of `if`, its parenthesis
         let back = if open == "if (a) " { 4 } else { 1 };
-        let place = (most + 1) * open.len() - back;
+        let place = open.len().saturating_mul(more).saturating_sub(back);
         assert!(rt; found.0.as_str() == "TooDeep", "{over}");
         assert_eq!(rt; found.1, place, "{over}");
     }

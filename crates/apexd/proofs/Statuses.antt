@@ -31,6 +31,9 @@ outgrown (Some l) (Some rest) bytes o e =
     let k = o.1 in
     omega arith
 
+pub told_of : (read bytes line text : List ℕ) → read ≡ bytes → text ≡ line → TellsWhy read line → TellsWhy bytes text
+told_of read bytes line text e f w = subst (λ x. TellsWhy x text) e (subst (λ x. TellsWhy read x) (sym f) w)
+
 pub refused_of : (read bytes text : List ℕ) (image old : Option Image) → read ≡ bytes → ((block : Block) → IsSmallBlock read block → ⊥) → image ≡ old → old ≡ None → TellsWhy bytes text → IsRefused bytes image text
 refused_of read bytes text image old e n i o w =
     record { none = λ block b. n block (subst (λ x. IsSmallBlock x block) (sym e) b); nothing_kept = i ∙ o; why = w }
