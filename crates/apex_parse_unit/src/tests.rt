@@ -4,7 +4,7 @@
 use crate::shown::{add, shown};
 use crate::{UnitKind, class_unit, trigger_unit, unit_kind};
 use apex_lexer::lex;
-use apex_syntax::{MemberTree, ResultTree, Unit};
+use apex_syntax::{MemberTree, ResultTree, Unit, depth};
 use apex_text::Span;
 use std::alloc::{AllocError, Global};
 use std::test::Fail;
@@ -578,6 +578,59 @@ fn fault_at(
         }
         Err(ParseFault::NoMemory) => Err(AllocError),
     }
+}
+
+// How many forms are open at once in a unit, where the text is one.
+fn depth_of(alloc: Global, text: &str) -> Result<Option<usize>, AllocError> {
+    let Ok(tokens) = lex(alloc, text.as_bytes()) else {
+        return Ok(None);
+    };
+    let unit = if text.starts_with("trigger") {
+        trigger_unit(alloc, tokens.as_slice())
+    } else {
+        class_unit(alloc, tokens.as_slice())
+    };
+    match unit {
+        Ok(tree) => Ok(Some(depth(&tree))),
+        Err(ParseFault::Wrong(..)) => Ok(None),
+        Err(ParseFault::NoMemory) => Err(AllocError),
+    }
+}
+
+#[test]
+fn depths(rt: HostRuntime) -> Result<(), Fail> {
+    let rows = [
+        ("class A { }", 1),
+        ("class A { Integer x; }", 1),
+        ("class A { Integer x { get; set; } }", 2),
+        ("class A { void f() { } }", 2),
+        ("class A { void f(List<Integer> x); }", 3),
+        ("class A { Integer x = (1 + (2)); }", 3),
+        ("class A { Integer x = !(1); }", 3),
+        ("class A { Integer x = (Integer) 1; }", 2),
+        ("class A { void f() { if (a) b(); } }", 4),
+        ("class A { void f() { if (a) { b(); } } }", 4),
+        ("class A { void f() { if (a) ; else if (b) ; } }", 4),
+        ("class A { void f() { x = y = 1; } }", 4),
+        ("class A { Integer x = a ? b : (c); }", 3),
+        (
+            "class A { Integer[] x = [SELECT Id FROM B WHERE (C = :d(1))]; }",
+            4,
+        ),
+        ("class A { Map<A, List<B[]>> x; }", 4),
+        ("class A { A x = new A(b = 1); }", 2),
+        ("class A { void f() { try { } catch (A b) { ; } } }", 3),
+        ("class A { void f() { for (A b : c) d++; } }", 3),
+        ("interface A { void f(); }", 2),
+        ("interface A { }", 1),
+        ("trigger T on A (before insert) { }", 1),
+        ("trigger T on A (before insert) { a(); }", 2),
+    ];
+    for (text, wanted) in rows {
+        let found = depth_of(rt.alloc(), text)?;
+        assert_eq!(rt; found, Some(wanted), "{text}");
+    }
+    Ok(())
 }
 
 #[test]

@@ -1,2 +1,3 @@
-pub mod Trees
-pub mod TypedTrees
+mod Trees
+mod TypedTrees
+mod DepthSteps

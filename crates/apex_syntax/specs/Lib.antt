@@ -1,2 +1,3 @@
 pub mod Links
 pub mod Chains
+pub mod Depths

@@ -5,6 +5,7 @@
 #![tactic(auto)]
 
 mod expr;
+mod nesting;
 mod query;
 mod stmt;
 pub mod tree;
@@ -16,6 +17,7 @@ pub use expr::{
     AssignOp, BinaryOp, Expr, FieldValue, Literal, NewItem, NewPart, Operand, PostfixPart,
     PrefixOp, StepOp, TypeTree,
 };
+pub use nesting::depth;
 pub use query::{
     BindRange, BindTree, CompareOp, CondTree, CountTree, KeyTree, ListTree, NumberTree, PathTree,
     QueryTree, SelTree, SelectTree, ValueTree,
