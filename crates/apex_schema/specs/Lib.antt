@@ -7,3 +7,6 @@ pub mod Accesses
 pub mod Rollups
 pub mod Rules
 pub mod Queries
+pub mod Names
+pub mod Plans
+pub mod Schemas

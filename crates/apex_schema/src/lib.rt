@@ -5,6 +5,7 @@
 #![tactic(auto)]
 
 mod lists;
+mod plan;
 mod query;
 mod reply;
 mod request;
@@ -12,6 +13,9 @@ mod row;
 mod rule;
 mod schema;
 
+pub use plan::{
+    FieldPlan, ObjectPlan, PlanKind, PlanLength, RolePlan, RulePlan, SchemaPlan, UserPlan,
+};
 pub use query::{
     Answer, Bind, Cond, CondOp, Path, Query, Question, SortKey, SubQuery, Term, Terms,
 };
