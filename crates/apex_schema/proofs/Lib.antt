@@ -1,2 +1,7 @@
 mod Samples
 mod PlanSamples
+mod PlaceSteps
+mod ChainSteps
+mod FirstSteps
+mod PrefixSteps
+mod ItemSteps

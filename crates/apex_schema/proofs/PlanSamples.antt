@@ -182,11 +182,11 @@ fields_come_before_rules = refl
 
 -- ---- what a field is made to
 
-text_field : field_of (record { roles = []; users = []; objects = [] }) 0 (record { name = codes "Name"; kind = Kind.Text; length = None; required = false; to = None; relation = None; children = None; of = None; by = None; field = None }) ≡ Some (record { name = codes "Name"; kind = Made.Text 255; required = false })
+text_field : field_of (record { roles = []; users = []; objects = [] }) 0 (record { name = codes "Name"; kind = Kind.Text; length = None; required = false; to = None; relation = None; children = None; of = None; by = None; field = None }) ≡ record { name = codes "Name"; kind = Made.Text 255; required = false }
 text_field = refl
 
-master_detail : field_of (record { roles = []; users = []; objects = record { name = codes "Account"; prefix = codes "001"; default = Edit; fields = []; rules = [] } ∷ [] }) 1 (record { name = codes "a"; kind = Kind.MasterDetail; length = None; required = false; to = (Some (codes "ACCOUNT")); relation = (Some (codes "r")); children = (Some (codes "c")); of = None; by = None; field = None }) ≡ Some (record { name = codes "a"; kind = Made.MasterDetail (record { to = 0; relation = codes "r"; children = codes "c" }); required = false })
+master_detail : field_of (record { roles = []; users = []; objects = record { name = codes "Account"; prefix = codes "001"; default = Edit; fields = []; rules = [] } ∷ [] }) 1 (record { name = codes "a"; kind = Kind.MasterDetail; length = None; required = false; to = (Some (codes "ACCOUNT")); relation = (Some (codes "r")); children = (Some (codes "c")); of = None; by = None; field = None }) ≡ record { name = codes "a"; kind = Made.MasterDetail (record { to = 0; relation = codes "r"; children = codes "c" }); required = false }
 master_detail = refl
 
-roll_up_field : field_of (record { roles = []; users = []; objects = record { name = codes "Account"; prefix = codes "001"; default = Edit; fields = []; rules = [] } ∷ record { name = codes "Line"; prefix = codes "002"; default = Edit; fields = record { name = codes "Amount"; kind = Kind.Number; length = None; required = false; to = None; relation = None; children = None; of = None; by = None; field = None } ∷ record { name = codes "a"; kind = Kind.MasterDetail; length = None; required = false; to = (Some (codes "Account")); relation = (Some (codes "r")); children = (Some (codes "Lines")); of = None; by = None; field = None } ∷ record { name = codes "Text"; kind = Kind.Text; length = None; required = false; to = None; relation = None; children = None; of = None; by = None; field = None } ∷ []; rules = [] } ∷ [] }) 0 (record { name = codes "Total"; kind = Kind.Rollup; length = None; required = false; to = None; relation = None; children = None; of = (Some (codes "Line")); by = (Some Sum); field = (Some (codes "Amount")) }) ≡ Some (record { name = codes "Total"; kind = Made.Rollup (record { detail = 1; by = Sum; field = Some 2 }); required = false })
+roll_up_field : field_of (record { roles = []; users = []; objects = record { name = codes "Account"; prefix = codes "001"; default = Edit; fields = []; rules = [] } ∷ record { name = codes "Line"; prefix = codes "002"; default = Edit; fields = record { name = codes "Amount"; kind = Kind.Number; length = None; required = false; to = None; relation = None; children = None; of = None; by = None; field = None } ∷ record { name = codes "a"; kind = Kind.MasterDetail; length = None; required = false; to = (Some (codes "Account")); relation = (Some (codes "r")); children = (Some (codes "Lines")); of = None; by = None; field = None } ∷ record { name = codes "Text"; kind = Kind.Text; length = None; required = false; to = None; relation = None; children = None; of = None; by = None; field = None } ∷ []; rules = [] } ∷ [] }) 0 (record { name = codes "Total"; kind = Kind.Rollup; length = None; required = false; to = None; relation = None; children = None; of = (Some (codes "Line")); by = (Some Sum); field = (Some (codes "Amount")) }) ≡ record { name = codes "Total"; kind = Made.Rollup (record { detail = 1; by = Sum; field = Some 2 }); required = false }
 roll_up_field = refl

@@ -10,3 +10,6 @@ pub mod Queries
 pub mod Names
 pub mod Plans
 pub mod Schemas
+pub mod Chains
+pub mod Children
+pub mod Lookups

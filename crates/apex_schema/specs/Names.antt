@@ -43,3 +43,8 @@ one_more (Some i) = Some (i + 1)
 abbrev pub place_of : List (List ℕ) → List ℕ → Option ℕ
 place_of [] name = None
 place_of (n ∷ ns) name = cond (bytes_eq n name) (Some 0) (one_more (place_of ns name))
+
+-- what is there, or a place where a name is the one that stands there
+abbrev pub or_at : Option ℕ → Bool → ℕ → Option ℕ
+or_at (Some i) same at = Some i
+or_at None same at = cond same (Some at) None

@@ -1,7 +1,7 @@
 -- What is wrong with a schema as it is planned (docs/platform.md, "Schemas").
 --
 -- Of each item the first word that applies is told, and of a schema the first item that has one.
-use Rattle.std.specs.Prelude.{ℕ, zero, suc, ◌+◌, ◌&&◌, ◌||◌, not, nat_lt, nat_le, eqb, Bool, true, false, cond, List, [], ◌∷◌, ◌++◌, length, map, codes, bytes_eq, Option, None, Some, slice_get}
+use Rattle.std.specs.Prelude.{ℕ, zero, suc, ◌+◌, ◌&&◌, ◌||◌, not, nat_lt, nat_le, eqb, Bool, true, false, cond, List, [], ◌∷◌, ◌++◌, length, take, map, codes, bytes_eq, Option, None, Some, slice_get}
 use Rattle.std.specs.List.{list_all, list_any}
 use Rattle.apex_text.specs.Fold.{folded}
 use Rattle.apex_schema.specs.declared.plan.SchemaPlan.{SchemaPlan}
@@ -20,6 +20,7 @@ use Rattle.apex_schema.specs.declared.schema.Rollup.{Rollup}
 use Rattle.apex_schema.specs.declared.reply.Fault.{Fault}
 use Rattle.apex_schema.specs.declared.reply.FaultWord.{FaultWord}
 use Rattle.apex_schema.specs.declared.reply.FaultWord.TheVariants.{Duplicate, BadName, BadPrefix, UnknownRole, RoleLoop, UnknownObject, TooManyMasters, MasterLoop, BadLength, BadRollup}
+use Rattle.apex_schema.specs.declared.child.ChildWord.{ChildWord}
 use Rattle.apex_schema.specs.Names.{is_letter, is_digit, has, is_bad_name, place_of}
 
 -- ---- the first of several
@@ -127,9 +128,9 @@ abbrev pub is_prefix : List ℕ → Bool
 is_prefix prefix =
     eqb (length prefix) 3 && list_all (λ b. is_letter b || is_digit b) prefix && not (has (codes "005" ∷ codes "00r" ∷ []) prefix)
 
--- prefixes are compared exactly
+-- prefixes are compared exactly, and an earlier object may not have the same
 abbrev pub is_bad_prefix : SchemaPlan → ℕ → List ℕ → Bool
-is_bad_prefix plan i prefix = not (is_prefix prefix) || is_before (place_of (prefixes plan) prefix) i
+is_bad_prefix plan i prefix = not (is_prefix prefix) || has (take i (prefixes plan)) prefix
 
 abbrev pub object_word : SchemaPlan → ℕ → ObjectPlan → Option FaultWord
 object_word plan i o =
@@ -189,9 +190,13 @@ abbrev pub words_of : Option (List (List ℕ)) → List (List ℕ)
 words_of None = []
 words_of (Some ws) = ws
 
+-- the words of each object, and of RowShare behind them
+abbrev pub word_lists : SchemaPlan → List (List (List ℕ))
+word_lists plan = map object_words plan.objects ++ row_share_words ∷ []
+
 -- the words of the object with this number
 abbrev pub words_at : SchemaPlan → ℕ → List (List ℕ)
-words_at plan n = words_of (slice_get (map object_words plan.objects ++ row_share_words ∷ []) n)
+words_at plan n = words_of (slice_get (word_lists plan) n)
 
 -- the object that a field leads to
 abbrev pub target : SchemaPlan → FieldPlan → Option ℕ
@@ -205,18 +210,16 @@ master_field (f ∷ fs) = cond (is_master f.kind) (Some f) (master_field fs)
 abbrev pub object_at : SchemaPlan → ℕ → Option ObjectPlan
 object_at plan n = slice_get plan.objects n
 
--- the master of the object with this number
-abbrev pub master_of : SchemaPlan → ℕ → Option ℕ
-master_of plan n = bind (object_at plan n) (λ o. bind (master_field o.fields) (target plan))
+abbrev pub master_in : SchemaPlan → ObjectPlan → Option ℕ
+master_in plan o = bind (master_field o.fields) (target plan)
 
--- the chain of masters from an object has at most so many steps
-abbrev pub masters_within : SchemaPlan → ℕ → ℕ → Bool
-masters_within plan zero n = is_none (master_of plan n)
-masters_within plan (suc k) n = none_or (masters_within plan k) (master_of plan n)
+-- the master of each object
+abbrev pub masters : SchemaPlan → List (Option ℕ)
+masters plan = map (master_in plan) plan.objects
 
--- with the field itself, at most three steps
+-- with the field itself, a chain of masters has at most three steps
 abbrev pub is_looped : SchemaPlan → FieldPlan → Bool
-is_looped plan f = not (none_or (masters_within plan 2) (target plan f))
+is_looped plan f = not (none_or (ends_within (masters plan) 2) (target plan f))
 
 -- ---- lengths and roll-ups
 
@@ -225,9 +228,11 @@ is_bad_length None = false
 is_bad_length (Some (Whole n)) = eqb n 0 || nat_lt 100000 n
 is_bad_length (Some Other) = true
 
--- the place of the first field with this name among these
 abbrev pub field_names : List FieldPlan → List (List ℕ)
 field_names fs = map (λ (f : FieldPlan). folded f.name) fs
+
+abbrev pub all_field_names : SchemaPlan → List (List (List ℕ))
+all_field_names plan = map (λ (o : ObjectPlan). field_names o.fields) plan.objects
 
 -- a Number among these fields, by its number in its object
 abbrev pub number_among : List FieldPlan → List ℕ → Option ℕ
@@ -241,19 +246,18 @@ summed d by (Some n) = bind (number_among d.fields n) (λ k. Some (Some k))
 
 -- an object whose master is this one
 abbrev pub detail_of : SchemaPlan → ℕ → FieldPlan → Option ℕ
-detail_of plan i f = bind (named (object_names plan) f.of) (λ d. bind (master_of plan d) (λ m. cond (eqb m i) (Some d) None))
+detail_of plan i f = bind (named (object_names plan) f.of) (λ d. bind (parent_at (masters plan) d) (λ m. cond (eqb m i) (Some d) None))
+
+-- the roll-up over a detail object
+abbrev pub rolled_by : SchemaPlan → ℕ → RollupBy → Option (List ℕ) → Option Rollup
+rolled_by plan d by name =
+    bind (object_at plan d) (λ o. bind (summed o by name) (λ k. Some (record { detail = d; by = by; field = k })))
 
 -- the roll-up that a field of object number i is, where it is one
 abbrev pub rollup_of : SchemaPlan → ℕ → FieldPlan → Option Rollup
-rollup_of plan i f =
-    bind f.by (λ by. bind (detail_of plan i f) (λ d. bind (object_at plan d) (λ o. bind (summed o by f.field) (λ k. Some (record { detail = d; by = by; field = k })))))
+rollup_of plan i f = bind f.by (λ by. bind (detail_of plan i f) (λ d. rolled_by plan d by f.field))
 
 -- ---- what is wrong with a field
-
--- a children word, and the object whose word it is
-pub record ChildWord : Type 0 where
-  pub to : ℕ
-  pub word : List ℕ
 
 abbrev pub has_child : List ChildWord → ChildWord → Bool
 has_child ws w = list_any (λ (v : ChildWord). eqb v.to w.to && bytes_eq v.word w.word) ws
@@ -270,8 +274,13 @@ abbrev pub child_is_taken : SchemaPlan → List ChildWord → Option ChildWord �
 child_is_taken plan earlier None = false
 child_is_taken plan earlier (Some w) = has (words_at plan w.to) w.word || has_child earlier w
 
+-- a word of the object, or the field's own name
+abbrev pub is_own : List (List ℕ) → List ℕ → Option (List ℕ) → Bool
+is_own before name None = false
+is_own before name (Some r) = has before (folded r) || bytes_eq name (folded r)
+
 abbrev pub relation_is_taken : List (List ℕ) → FieldPlan → Bool
-relation_is_taken before f = cond (is_link f.kind) (list_any (has (before ++ folded f.name ∷ [])) (given f.relation)) false
+relation_is_taken before f = cond (is_link f.kind) (is_own before (folded f.name) f.relation) false
 
 abbrev pub is_bad_given : Option (List ℕ) → Bool
 is_bad_given None = true
@@ -286,15 +295,23 @@ pub record Before : Type 0 where
   pub mastered : Bool
   pub children : List ChildWord
 
-abbrev pub field_word : SchemaPlan → ℕ → Before → FieldPlan → Option FaultWord
-field_word plan i before f =
-    or_later (when (has before.words (folded f.name) || relation_is_taken before.words f || child_is_taken plan before.children (child_word plan f)) Duplicate)
-    (or_later (when (has_bad_name f) BadName)
-    (or_later (when (is_link f.kind && is_none (target plan f)) UnknownObject)
-    (or_later (when (is_master f.kind && before.mastered) TooManyMasters)
+-- a name, a relation word or a children word that is there already
+abbrev pub is_double : SchemaPlan → Before → FieldPlan → Bool
+is_double plan before f =
+    has before.words (folded f.name) || (relation_is_taken before.words f || child_is_taken plan before.children (child_word plan f))
+
+-- what is wrong with where a field leads, or what it holds
+abbrev pub kind_word : SchemaPlan → ℕ → Bool → FieldPlan → Option FaultWord
+kind_word plan i mastered f =
+    or_later (when (is_link f.kind && is_none (target plan f)) UnknownObject)
+    (or_later (when (is_master f.kind && mastered) TooManyMasters)
     (or_later (when (is_master f.kind && is_looped plan f) MasterLoop)
     (or_later (when (is_text f.kind && is_bad_length f.length) BadLength)
-    (when (is_rollup f.kind && is_none (rollup_of plan i f)) BadRollup))))))
+    (when (is_rollup f.kind && is_none (rollup_of plan i f)) BadRollup))))
+
+abbrev pub field_word : SchemaPlan → ℕ → Before → FieldPlan → Option FaultWord
+field_word plan i before f =
+    or_later (when (is_double plan before f) Duplicate) (or_later (when (has_bad_name f) BadName) (kind_word plan i before.mastered f))
 
 abbrev pub field_place : ObjectPlan → List ℕ → List ℕ
 field_place o name = o.name ++ codes "." ++ name
@@ -310,6 +327,10 @@ abbrev pub fields_fault : SchemaPlan → ℕ → ObjectPlan → Before → List 
 fields_fault plan i o b [] = None
 fields_fault plan i o b (f ∷ fs) = or_later (standing (field_place o f.name) (field_word plan i b f)) (fields_fault plan i o (behind plan b f) fs)
 
+-- what stands before the first field of an object
+abbrev pub start : List ChildWord → Before
+start earlier = record { words = own_words; mastered = false; children = earlier }
+
 -- the children words of fields
 abbrev pub children_of : SchemaPlan → List FieldPlan → List ChildWord
 children_of plan [] = []
@@ -318,7 +339,7 @@ children_of plan (f ∷ fs) = added (child_word plan f) ++ children_of plan fs
 abbrev pub all_fields_fault : SchemaPlan → ℕ → List ChildWord → List ObjectPlan → Option Fault
 all_fields_fault plan i earlier [] = None
 all_fields_fault plan i earlier (o ∷ os) =
-    or_later (fields_fault plan i o (record { words = own_words; mastered = false; children = earlier }) o.fields)
+    or_later (fields_fault plan i o (start earlier) o.fields)
     (all_fields_fault plan (i + 1) (earlier ++ children_of plan o.fields) os)
 
 -- ---- rules, by their names alone
@@ -331,10 +352,12 @@ rules_fault i o = first_of (rule_fault o) 0 o.rules
 
 -- ---- the first fault of a schema, its formulas apart
 
+abbrev pub people_fault : SchemaPlan → Option Fault
+people_fault plan = or_later (first_of (role_fault plan) 0 plan.roles) (first_of (user_fault plan) 0 plan.users)
+
+abbrev pub data_fault : SchemaPlan → Option Fault
+data_fault plan =
+    or_later (first_of (object_fault plan) 0 plan.objects) (or_later (all_fields_fault plan 0 [] plan.objects) (first_of rules_fault 0 plan.objects))
+
 abbrev pub schema_fault : SchemaPlan → Option Fault
-schema_fault plan =
-    or_later (first_of (role_fault plan) 0 plan.roles)
-    (or_later (first_of (user_fault plan) 0 plan.users)
-    (or_later (first_of (object_fault plan) 0 plan.objects)
-    (or_later (all_fields_fault plan 0 [] plan.objects)
-    (first_of rules_fault 0 plan.objects))))
+schema_fault plan = or_later (people_fault plan) (data_fault plan)

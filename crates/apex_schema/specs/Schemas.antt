@@ -1,5 +1,7 @@
 -- The schema that a plan without fault says (docs/platform.md, "Schemas").
-use Rattle.std.specs.Prelude.{ℕ, ◌+◌, ◌++◌, Bool, true, false, List, [], ◌∷◌, map, codes, Option, None, Some}
+--
+-- In a plan with a fault something may be missing; then 0, the empty text or COUNT stands here, and it means nothing.
+use Rattle.std.specs.Prelude.{◌≡◌, ℕ, ◌+◌, ◌++◌, nat_lt, cond, Bool, true, false, List, [], ◌∷◌, map, codes, Option, None, Some, Result, Ok, Err}
 use Rattle.apex_schema.specs.declared.plan.SchemaPlan.{SchemaPlan}
 use Rattle.apex_schema.specs.declared.plan.RolePlan.{RolePlan}
 use Rattle.apex_schema.specs.declared.plan.UserPlan.{UserPlan}
@@ -21,12 +23,15 @@ use Rattle.apex_schema.specs.declared.schema.Field.{Field}
 use Rattle.apex_schema.specs.declared.schema.RuleHead.{RuleHead}
 use Rattle.apex_schema.specs.declared.schema.Object.{Object}
 use Rattle.apex_schema.specs.declared.schema.Schema.{Schema}
-use Rattle.apex_schema.specs.Plans.{bind, named, role_names, target, rollup_of}
+use Rattle.apex_schema.specs.declared.schema.RollupBy.TheVariants.{Count}
+use Rattle.apex_schema.specs.declared.build.SchemaFault.{SchemaFault}
+use Rattle.apex_schema.specs.declared.build.SchemaFault.TheVariants.{Wrong, NoMemory}
+use Rattle.apex_schema.specs.Plans.{named, role_names, target, rollup_of, schema_fault}
 
--- what each of these comes to, where each comes to something; their numbers go from i on
-abbrev pub each : {A B : Type 0} → (ℕ → A → Option B) → ℕ → List A → Option (List B)
-each made i [] = Some []
-each made i (x ∷ xs) = bind (made i x) (λ y. bind (each made (i + 1) xs) (λ ys. Some (y ∷ ys)))
+-- what these are made to; their numbers go from i on
+abbrev pub numbered : {A B : Type 0} → (ℕ → A → B) → ℕ → List A → List B
+numbered made i [] = []
+numbered made i (x ∷ xs) = made i x ∷ numbered made (i + 1) xs
 
 -- ---- roles and users
 
@@ -38,27 +43,39 @@ user_of plan u = record { name = u.name; role = named (role_names plan) u.role }
 
 -- ---- fields
 
+abbrev pub number_or : Option ℕ → ℕ
+number_or None = 0
+number_or (Some n) = n
+
+abbrev pub text_or : Option (List ℕ) → List ℕ
+text_or None = []
+text_or (Some t) = t
+
 -- a Text is of 255 scalars where no length is given
-abbrev pub length_of : Option PlanLength → Option ℕ
-length_of None = Some 255
-length_of (Some (Whole n)) = Some n
-length_of (Some Other) = None
+abbrev pub length_of : Option PlanLength → ℕ
+length_of None = 255
+length_of (Some (Whole n)) = cond (nat_lt 100000 n) 0 n
+length_of (Some Other) = 0
 
-abbrev pub link_of : SchemaPlan → FieldPlan → Option Link
-link_of plan f = bind (target plan f) (λ n. bind f.relation (λ r. bind f.children (λ c. Some (record { to = n; relation = r; children = c }))))
+abbrev pub link_of : SchemaPlan → FieldPlan → Link
+link_of plan f = record { to = number_or (target plan f); relation = text_or f.relation; children = text_or f.children }
 
-abbrev pub kind_as : SchemaPlan → ℕ → FieldPlan → PlanKind → Option FieldKind
-kind_as plan i f Planned.Text = bind (length_of f.length) (λ n. Some (Kind.Text n))
-kind_as plan i f Planned.Number = Some Kind.Number
-kind_as plan i f Planned.Checkbox = Some Kind.Checkbox
-kind_as plan i f Planned.Date = Some Kind.Date
-kind_as plan i f Planned.Datetime = Some Kind.Datetime
-kind_as plan i f Planned.Lookup = bind (link_of plan f) (λ l. Some (Kind.Lookup l))
-kind_as plan i f Planned.MasterDetail = bind (link_of plan f) (λ l. Some (Kind.MasterDetail l))
-kind_as plan i f Planned.Rollup = bind (rollup_of plan i f) (λ r. Some (Kind.Rollup r))
+abbrev pub rollup_or : Option Rollup → Rollup
+rollup_or None = record { detail = 0; by = Count; field = None }
+rollup_or (Some r) = r
 
-abbrev pub field_of : SchemaPlan → ℕ → FieldPlan → Option Field
-field_of plan i f = bind (kind_as plan i f f.kind) (λ k. Some (record { name = f.name; kind = k; required = f.required }))
+abbrev pub kind_as : SchemaPlan → ℕ → FieldPlan → PlanKind → FieldKind
+kind_as plan i f Planned.Text = Kind.Text (length_of f.length)
+kind_as plan i f Planned.Number = Kind.Number
+kind_as plan i f Planned.Checkbox = Kind.Checkbox
+kind_as plan i f Planned.Date = Kind.Date
+kind_as plan i f Planned.Datetime = Kind.Datetime
+kind_as plan i f Planned.Lookup = Kind.Lookup (link_of plan f)
+kind_as plan i f Planned.MasterDetail = Kind.MasterDetail (link_of plan f)
+kind_as plan i f Planned.Rollup = Kind.Rollup (rollup_or (rollup_of plan i f))
+
+abbrev pub field_of : SchemaPlan → ℕ → FieldPlan → Field
+field_of plan i f = record { name = f.name; kind = kind_as plan i f f.kind; required = f.required }
 
 -- ---- objects
 
@@ -72,16 +89,15 @@ abbrev pub head_of : RulePlan → RuleHead
 head_of r = record { name = r.name; message = r.message }
 
 -- the formulas come later
-abbrev pub object_of : SchemaPlan → ℕ → ObjectPlan → Option Object
-object_of plan i o =
-    bind (each (λ k f. field_of plan i f) 0 o.fields) (λ fs. Some (record {
-      name = o.name;
-      prefix = o.prefix;
-      default = o.default;
-      fields = own_fields ++ fs;
-      heads = map head_of o.rules;
-      rules = [];
-    }))
+abbrev pub object_of : SchemaPlan → ℕ → ObjectPlan → Object
+object_of plan i o = record {
+  name = o.name;
+  prefix = o.prefix;
+  default = o.default;
+  fields = own_fields ++ map (field_of plan i) o.fields;
+  heads = map head_of o.rules;
+  rules = [];
+}
 
 -- the object that every tenant has
 abbrev pub row_share : Object
@@ -101,10 +117,15 @@ row_share = record {
 -- ---- schemas
 
 -- the planned objects in their order, and RowShare behind them
-abbrev pub schema_of : SchemaPlan → Option Schema
-schema_of plan =
-    bind (each (object_of plan) 0 plan.objects) (λ os. Some (record {
-      roles = map (role_of plan) plan.roles;
-      users = map (user_of plan) plan.users;
-      objects = os ++ row_share ∷ [];
-    }))
+abbrev pub schema_of : SchemaPlan → Schema
+schema_of plan = record {
+  roles = map (role_of plan) plan.roles;
+  users = map (user_of plan) plan.users;
+  objects = numbered (object_of plan) 0 plan.objects ++ row_share ∷ [];
+}
+
+-- what building a plan tells: its schema where it has no fault, and otherwise the first one; want of memory is free
+abbrev pub Builds : SchemaPlan → Result Schema SchemaFault → Type 0
+Builds plan (Ok schema) = (schema_fault plan ≡ None) × (schema ≡ schema_of plan)
+Builds plan (Err (Wrong fault)) = schema_fault plan ≡ Some fault
+Builds plan (Err NoMemory) = Unit {0}

@@ -4,15 +4,29 @@
 //! and when a validation rule holds.
 #![tactic(auto)]
 
+mod before;
+mod build;
+mod chains;
+mod child;
+mod faults;
+mod fields;
 mod lists;
+mod lookup;
+mod names;
+mod objects;
+mod places;
 mod plan;
+mod planned;
 mod query;
 mod reply;
 mod request;
+mod roles;
 mod row;
 mod rule;
 mod schema;
+mod sets;
 
+pub use build::SchemaFault;
 pub use plan::{
     FieldPlan, ObjectPlan, PlanKind, PlanLength, RolePlan, RulePlan, SchemaPlan, UserPlan,
 };
@@ -27,5 +41,7 @@ pub use schema::{
     Access, Field, FieldKind, Link, Mode, Object, Role, Rollup, RollupBy, RuleHead, Schema, User,
 };
 
+#[cfg(test)]
+mod build_tests;
 #[cfg(test)]
 mod tests;

@@ -1,3 +1,3 @@
-mod Trees
-mod TypedTrees
+pub mod Trees
+pub mod TypedTrees
 mod DepthSteps
