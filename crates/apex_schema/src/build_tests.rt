@@ -178,7 +178,7 @@ fn built(alloc: Global, written: &str) -> Result<String, AllocError> {
 }
 
 #[test]
-fn plans(rt: HostRuntime) -> Result<(), Fail> {
+fn people(rt: HostRuntime) -> Result<(), Fail> {
     let rows = [
         ("", "ok"),
         ("role head -; role Head -", "Duplicate schema Head"),
@@ -198,6 +198,17 @@ fn plans(rt: HostRuntime) -> Result<(), Fail> {
         ("user try -", "BadName schema try"),
         ("role a b; user 1 -", "UnknownRole schema a"),
         ("user ann -; user bob -", "ok"),
+    ];
+    for (written, wanted) in rows {
+        let found = built(rt.alloc(), written)?;
+        assert!(rt; found.as_str() == wanted, "{written}: {found}");
+    }
+    Ok(())
+}
+
+#[test]
+fn objects(rt: HostRuntime) -> Result<(), Fail> {
+    let rows = [
         (
             "object Account 001; object ACCOUNT 002",
             "Duplicate schema ACCOUNT",
@@ -217,33 +228,17 @@ fn plans(rt: HostRuntime) -> Result<(), Fail> {
         ("object A 0-1", "BadPrefix schema A"),
         ("object Account 001; object 1 001", "BadName schema 1"),
         ("user 1 -; object 1 001", "BadName schema 1"),
-        (
-            "object Account 001; Text ID -",
-            "Duplicate schema Account.ID",
-        ),
-        (
-            "object Account 001; Text OwnerId -",
-            "Duplicate schema Account.OwnerId",
-        ),
-        (
-            "object Account 001; Text a -; Number A",
-            "Duplicate schema Account.A",
-        ),
-        ("object Account 001; Text a -; object B 002; Text a -", "ok"),
-        ("object Account 001; Text if -", "BadName schema Account.if"),
-        ("object Account 001; Text a 0", "BadLength schema Account.a"),
-        ("object Account 001; Text a 1", "ok"),
-        ("object Account 001; Text a 100000", "ok"),
-        (
-            "object Account 001; Text a 100001",
-            "BadLength schema Account.a",
-        ),
-        (
-            "object Account 001; Text a 1.5",
-            "BadLength schema Account.a",
-        ),
-        ("object Account 001; Text a -", "ok"),
-        ("object Account 001; Number a 0", "ok"),
+    ];
+    for (written, wanted) in rows {
+        let found = built(rt.alloc(), written)?;
+        assert!(rt; found.as_str() == wanted, "{written}: {found}");
+    }
+    Ok(())
+}
+
+#[test]
+fn links(rt: HostRuntime) -> Result<(), Fail> {
+    let rows = [
         (
             "object Account 001; Lookup a B r c",
             "UnknownObject schema Account.a",
@@ -314,11 +309,26 @@ fn plans(rt: HostRuntime) -> Result<(), Fail> {
             "object Account 001; Lookup a RowShare r Level",
             "Duplicate schema Account.a",
         ),
-        ("object Account 001; MasterDetail a RowShare r c", "ok"),
         (
             "object Account 001; Lookup id B 1 c",
             "Duplicate schema Account.id",
         ),
+        (
+            "object Account 001; Rollup t Line Count -; object Line 002; Lookup a Account r Lines",
+            "BadRollup schema Account.t",
+        ),
+    ];
+    for (written, wanted) in rows {
+        let found = built(rt.alloc(), written)?;
+        assert!(rt; found.as_str() == wanted, "{written}: {found}");
+    }
+    Ok(())
+}
+
+#[test]
+fn masters(rt: HostRuntime) -> Result<(), Fail> {
+    let rows = [
+        ("object Account 001; MasterDetail a RowShare r c", "ok"),
         (
             "object Account 001; object B 002; MasterDetail a Account r c; MasterDetail b Account s d",
             "TooManyMasters schema B.b",
@@ -368,10 +378,6 @@ fn plans(rt: HostRuntime) -> Result<(), Fail> {
             "BadRollup schema Account.t",
         ),
         (
-            "object Account 001; Rollup t Line Count -; object Line 002; Lookup a Account r Lines",
-            "BadRollup schema Account.t",
-        ),
-        (
             "object Account 001; Rollup t - Count -",
             "BadRollup schema Account.t",
         ),
@@ -387,6 +393,44 @@ fn plans(rt: HostRuntime) -> Result<(), Fail> {
             "object Account 001; Rollup t RowShare Count -",
             "BadRollup schema Account.t",
         ),
+    ];
+    for (written, wanted) in rows {
+        let found = built(rt.alloc(), written)?;
+        assert!(rt; found.as_str() == wanted, "{written}: {found}");
+    }
+    Ok(())
+}
+
+#[test]
+fn fields(rt: HostRuntime) -> Result<(), Fail> {
+    let rows = [
+        (
+            "object Account 001; Text ID -",
+            "Duplicate schema Account.ID",
+        ),
+        (
+            "object Account 001; Text OwnerId -",
+            "Duplicate schema Account.OwnerId",
+        ),
+        (
+            "object Account 001; Text a -; Number A",
+            "Duplicate schema Account.A",
+        ),
+        ("object Account 001; Text a -; object B 002; Text a -", "ok"),
+        ("object Account 001; Text if -", "BadName schema Account.if"),
+        ("object Account 001; Text a 0", "BadLength schema Account.a"),
+        ("object Account 001; Text a 1", "ok"),
+        ("object Account 001; Text a 100000", "ok"),
+        (
+            "object Account 001; Text a 100001",
+            "BadLength schema Account.a",
+        ),
+        (
+            "object Account 001; Text a 1.5",
+            "BadLength schema Account.a",
+        ),
+        ("object Account 001; Text a -", "ok"),
+        ("object Account 001; Number a 0", "ok"),
         ("object Account 001; rule 1", "BadName schema Account.1"),
         ("object Account 001; rule r; rule r", "ok"),
         (
