@@ -5,3 +5,4 @@ mod ChainSteps
 mod FirstSteps
 mod PrefixSteps
 mod ItemSteps
+mod RuleSteps

@@ -13,3 +13,5 @@ pub mod Schemas
 pub mod Chains
 pub mod Children
 pub mod Lookups
+pub mod Formulas
+pub mod Validity

@@ -3,6 +3,7 @@
 ghost use Rattle.std.specs.Prelude.{◌≡◌, ◌++◌, ◌≤◌, length, map, IfOk, MatchResult};
 ghost use Rattle.apex_schema.specs.Plans as spec;
 ghost use Rattle.apex_schema.specs.Schemas as made;
+ghost use Rattle.apex_schema.specs.Validity.{IsValid};
 
 use crate::faults::{role_places, schema_fault};
 use crate::fields::rollup_of;
@@ -332,7 +333,8 @@ impl Schema {
     /// looked at first, then users, then objects, then the fields of each object, then the names of its rules.
     pub fn build(alloc: Global, plan: &SchemaPlan) -> Result<Schema, SchemaFault>
         requires { length plan.now.users ≤ 1000000 }
-        ensures { made.Builds plan.now result }
+        ensures built { made.Builds plan.now result }
+        ensures valid { IfOk result IsValid }
     {
         match built(alloc, plan) {
             Ok(Ok(schema)) => Ok(schema),

@@ -25,6 +25,7 @@ mod row;
 mod rule;
 mod schema;
 mod sets;
+mod with_rules;
 
 pub use build::SchemaFault;
 pub use plan::{

@@ -7,7 +7,7 @@ use apex_list::Items;
 use apex_num::{Id, LimitKind, NoMemory, Text};
 use thiserror::Error;
 
-/// What is wrong with a text, a schema, a seed or a request.
+/// What is wrong with a text, a bundle, a schema, a seed or a request.
 #[derive(Clone, Copy, Debug, PartialEq, Eq, Hash, Drop, Error)]
 pub enum FaultWord {
     #[error("NotUtf8")]
@@ -88,6 +88,16 @@ pub enum FaultWord {
     Missing,
     #[error("UnknownRow")]
     UnknownRow,
+    #[error("NotJson")]
+    NotJson,
+    #[error("UnknownKey")]
+    UnknownKey,
+    #[error("WrongKind")]
+    WrongKind,
+    #[error("BadValue")]
+    BadValue,
+    #[error("TooMany")]
+    TooMany,
     #[error("NotYet")]
     NotYet,
 }

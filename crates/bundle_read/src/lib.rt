@@ -1,0 +1,20 @@
+//! Bundles: from the bytes of a run's input to what they say, or the first fault in them.
+#![tactic(auto)]
+
+mod bundle;
+mod entries;
+mod fault;
+mod lists;
+mod read;
+mod reading;
+mod requests;
+mod schema;
+mod taken;
+mod values;
+
+pub use entries::{
+    Bundle, CellEntry, CellValue, RequestEntry, RowEntry, SaveEntry, SeedEntry, SessionEntry,
+    TenantPlan, UnitPlan, WorkEntry,
+};
+pub use fault::BundleFault;
+pub use reading::read_bundle;
