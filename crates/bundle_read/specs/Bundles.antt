@@ -192,6 +192,9 @@ cells (member k d ms) = record { name = k; value = cell_value d } ∷ cells ms
 abbrev pub row : Data → Result RowEntry Fault
 row d = of_kind (as_object d) >>= (λ ms. Ok (record { cells = cells ms }))
 
+abbrev pub rows_key : List ℕ
+rows_key = codes "rows"
+
 abbrev pub seed_keys : List (List ℕ)
 seed_keys = codes "object" ∷ codes "rows" ∷ []
 

@@ -8,6 +8,7 @@ mod lists;
 mod read;
 mod reading;
 mod requests;
+mod rows;
 mod schema;
 mod taken;
 mod values;

@@ -1,22 +1,19 @@
-// Rows, seed entries, requests and sessions.
+// Units, seed entries, requests and sessions.
 
-ghost use Rattle.std.specs.Prelude.{◌≡◌, IfOk};
+ghost use Rattle.std.specs.Prelude.{◌≡◌};
 ghost use Rattle.bundle_read.specs.Bundles as bundle;
 ghost use Rattle.bundle_read.specs.Readings as spec;
 ghost use Rattle.bundle_read.specs.Readings.{Tells};
-ghost use Rattle.serde_json.specs.View.{view, members_view};
+ghost use Rattle.serde_json.specs.View.{view};
 
-use crate::entries::{
-    CellEntry, CellValue, RequestEntry, RowEntry, SaveEntry, SeedEntry, SessionEntry, UnitPlan,
-    WorkEntry,
-};
+use crate::entries::{RequestEntry, SaveEntry, SeedEntry, SessionEntry, UnitPlan, WorkEntry};
 use crate::fault::{BundleFault, wrong};
 use crate::lists::{keyed, needed_list};
 use crate::read::{Entry, needed, optional, within_key};
-use apex_list::Items;
-use apex_num::{NoMemory, Text};
+use crate::rows::needed_rows;
+use apex_num::Text;
 use apex_schema::FaultWord;
-use serde_json::{Map, Value};
+use serde_json::Value;
 use std::alloc::Global;
 
 impl Entry for UnitPlan {
@@ -32,50 +29,6 @@ impl Entry for UnitPlan {
     }
 }
 
-// What is written for a cell.
-fn cell_value(alloc: Global, value: &Value) -> Result<CellValue, NoMemory>
-    ensures { IfOk result (λ c. c ≡ bundle.cell_value (view value.now)) }
-{
-    Ok(match value {
-        Value::Null => CellValue::Null,
-        Value::Bool(truth) => CellValue::Truth(*truth),
-        Value::Number(number) => match number.as_i128() {
-            Some(n) => CellValue::Whole(n),
-            None => CellValue::Float,
-        },
-        Value::String(text) => CellValue::Text(Text::from_str(alloc, text.as_str())?),
-        Value::Array(_) | Value::Object(_) => CellValue::Nested,
-    })
-}
-
-fn cells(alloc: Global, members: &Map<String, Value>) -> Result<Items<CellEntry>, NoMemory>
-    ensures { IfOk result (λ c. c ≡ bundle.cells (members_view members.now.entries)) }
-{
-    let mut all = Items::new(alloc);
-    for (name, value) in members.iter() {
-        all.push(CellEntry {
-            name: Text::from_str(alloc, name.as_str())?,
-            value: cell_value(alloc, value)?,
-        })?;
-    }
-    Ok(all)
-}
-
-impl Entry for RowEntry {
-    ghost use Rattle.bundle_read.specs.Bundles as bundle;
-
-    ghost reads = { bundle.row };
-
-    fn read(alloc: Global, value: &Value) -> Result<RowEntry, BundleFault> {
-        match value.as_object() {
-            Some(members) => Ok(RowEntry {
-                cells: cells(alloc, members)?,
-            }),
-            None => Err(wrong(alloc, FaultWord::WrongKind)),
-        }
-    }
-}
-
 impl Entry for SeedEntry {
     ghost use Rattle.bundle_read.specs.Bundles as bundle;
 
@@ -84,7 +37,7 @@ impl Entry for SeedEntry {
     fn read(alloc: Global, value: &Value) -> Result<SeedEntry, BundleFault> {
         keyed(alloc, value, &["object", "rows"])?;
         let object = needed(alloc, value, "object")?;
-        let rows = needed(alloc, value, "rows")?;
+        let rows = needed_rows(alloc, value)?;
         Ok(SeedEntry { object, rows })
     }
 }
@@ -99,7 +52,7 @@ impl Entry for SaveEntry {
         let op = needed(alloc, value, "op")?;
         let object = needed(alloc, value, "object")?;
         let all_or_none = needed(alloc, value, "allOrNone")?;
-        let rows = needed(alloc, value, "rows")?;
+        let rows = needed_rows(alloc, value)?;
         Ok(SaveEntry {
             op,
             object,
