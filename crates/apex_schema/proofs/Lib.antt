@@ -6,3 +6,4 @@ mod FirstSteps
 mod PrefixSteps
 mod ItemSteps
 mod RuleSteps
+mod FormulaSamples
