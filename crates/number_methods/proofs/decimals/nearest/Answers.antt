@@ -1,0 +1,29 @@
+use Rattle.std.proofs.Common.{arith, rules, ◌≡◌, ◌≤◌, ◌^◌, ℤ, pos, unsigned_abs, sym, ◌∙◌, subst, ap}
+use Rattle.std.proofs.lemmas.Int.{ints}
+use Rattle.apex_num.specs.Decimals.{IsHalfEven, IsDecimal}
+use Rattle.number_methods.proofs.Near.{near, once, decimal, back}
+use Rattle.number_methods.proofs.decimals.nearest.Goals as goal
+
+pub overflow_cast-result : goal.overflow_cast-result
+overflow_cast-result c =
+    let r = c.in-Ok.ensures.rounded in
+    let range : IsDecimal c.args.d = search rules in
+    let small = near c.args.d r.0 range (once c.args.d c.decimal_of.result r.0 c.decimal_of.ensures r.1) in
+    let size : unsigned_abs c.millionths.result ≤ 10 ^ 13 = subst (λ z. unsigned_abs z ≤ 10 ^ 13) (sym (c.millionths.ensures.value ∙ r.2.0)) small in
+    omega (arith, ints)
+
+pub unreachable-requires : goal.unreachable-requires
+unreachable-requires c =
+    let r = c.in-Err.ensures.rounded in
+    let range : IsDecimal c.args.d = search rules in
+    r.2.1 (decimal c.args.d r.0 range (once c.args.d c.decimal_of.result r.0 c.decimal_of.ensures r.1))
+
+pub returns : goal.returns
+returns c =
+    let r = c.in-Ok.ensures.rounded in
+    let range : IsDecimal c.args.d = search rules in
+    let half = once c.args.d c.decimal_of.result r.0 c.decimal_of.ensures r.1 in
+    let small = near c.args.d r.0 range half in
+    let is = c.millionths.ensures.value ∙ r.2.0 in
+    let size : unsigned_abs c.millionths.result ≤ 10 ^ 13 = subst (λ z. unsigned_abs z ≤ 10 ^ 13) (sym is) small in
+    subst (IsHalfEven c.args.d (pos 1000000)) (sym (back c.millionths.result size ∙ is)) half

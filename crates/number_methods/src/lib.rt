@@ -1,0 +1,13 @@
+//! Methods of Integer, Long and Decimal: their values from texts, and Decimals made whole or rounded.
+#![tactic(auto)]
+
+mod decimals;
+mod longs;
+mod texts;
+
+pub use decimals::{nearest, set_scale, to_integer, whole};
+pub use longs::modulo;
+pub use texts::{read_integer, read_long};
+
+#[cfg(test)]
+mod tests;
