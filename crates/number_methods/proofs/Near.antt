@@ -1,5 +1,5 @@
 -- The nearest whole number of a Decimal is small.
-use Rattle.std.proofs.Common.{arith, zero, suc, inl, inr, refl, ap, ◌∙◌, ◌≡◌, ◌<◌, ◌≤◌, ◌*◌, ◌^◌, ◌⊎◌, ⊎_elim, ℕ, ℤ, pos, ◌*ℤ◌, ◌-ℤ◌, unsigned_abs, sym, subst}
+use Rattle.std.proofs.Common.{arith, zero, suc, inl, inr, ◌≡◌, ◌≤◌, ◌*◌, ◌^◌, ⊎_elim, ℕ, ℤ, pos, ◌*ℤ◌, unsigned_abs, subst}
 use Rattle.std.proofs.Common.{to_z, of_z}
 use mir.Syntax.{w64, w128}
 use Rattle.std.proofs.lemmas.Int.{ints}

@@ -6,7 +6,7 @@ mod longs;
 mod texts;
 
 pub use decimals::{nearest, set_scale, to_integer, whole};
-pub use longs::modulo;
+pub use longs::{modulo, wrapped};
 pub use texts::{read_integer, read_long};
 
 #[cfg(test)]

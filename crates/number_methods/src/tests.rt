@@ -64,6 +64,22 @@ fn rests(rt: HostRuntime) -> Result<(), Fail> {
     Ok(())
 }
 
+#[test]
+fn wraps(rt: HostRuntime) -> Result<(), Fail> {
+    let rows: [(i64, i32); 6] = [
+        (0, 0),
+        (2_147_483_647, 2_147_483_647),
+        (2_147_483_648, -2_147_483_648),
+        (-2_147_483_649, 2_147_483_647),
+        (4_294_967_295, -1),
+        (i64::MIN, 0),
+    ];
+    for (n, low) in rows {
+        assert_eq!(rt; wrapped(n), low);
+    }
+    Ok(())
+}
+
 fn decimal(rt: &impl Abort, text: &str) -> Dec {
     read_dec(text.as_bytes()).expect(rt, "a decimal")
 }

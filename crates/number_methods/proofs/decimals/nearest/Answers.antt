@@ -1,4 +1,4 @@
-use Rattle.std.proofs.Common.{arith, rules, ◌≡◌, ◌≤◌, ◌^◌, ℤ, pos, unsigned_abs, sym, ◌∙◌, subst, ap}
+use Rattle.std.proofs.Common.{arith, rules, ◌≤◌, ◌^◌, pos, unsigned_abs, sym, ◌∙◌, subst}
 use Rattle.std.proofs.lemmas.Int.{ints}
 use Rattle.apex_num.specs.Decimals.{IsHalfEven, IsDecimal}
 use Rattle.number_methods.proofs.Near.{near, once, decimal, back}

@@ -1,6 +1,5 @@
-use Rattle.std.proofs.Common.{arith, rules, ◌≡◌, ◌^◌, ◌*ℤ◌, pos, ap, ◌∙◌, subst}
+use Rattle.std.proofs.Common.{rules, ◌≡◌, ◌^◌, ◌*ℤ◌, pos, ap, ◌∙◌, subst}
 use Rattle.apex_num.specs.Decimals.{IsHalfEven, IsDecimal, Answers}
-use Rattle.number_methods.specs.Methods.{unit}
 use Rattle.number_methods.proofs.Near.{fewer, share}
 use Rattle.number_methods.proofs.decimals.set_scale.Goals as goal
 
