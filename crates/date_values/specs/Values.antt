@@ -1,7 +1,7 @@
 -- The days and seconds of dates and moments, by computation (docs/formats.md, "Dates and moments").
 --
--- The texts that are dates and moments are defined in `date_texts`; that these functions tell just them is a law, which `date_of` and
--- `moment_of` carry.
+-- The texts that are dates and moments are defined in `date_texts`; that these functions tell just them is what the two
+-- clauses of `date_of` and of `moment_of` come to.
 use Rattle.std.specs.Prelude.{ℕ, ◌+◌, ◌*◌, ◌&&◌, nat_lt, nat_le, eqb, cond, Bool, true, List, [], ◌∷◌, length, take, drop, slice_index, ℤ, pos, ◌+ℤ◌, ◌*ℤ◌, Option, None, Some}
 use Rattle.std.specs.Char.{digit_value}
 use Rattle.std.specs.Str.Parse.{digits_value}
