@@ -53,3 +53,21 @@ share c q (suc (suc (suc (suc zero)))) h d half = let k = half_of (c *ℤ pos 10
 share c q (suc (suc (suc (suc (suc zero))))) h d half = let k = half_of (c *ℤ pos 100000) q half in omega (arith, ints)
 share c q (suc (suc (suc (suc (suc (suc zero)))))) h d half = let k = half_of (c *ℤ pos 1000000) q half in omega (arith, ints)
 share c q (suc (suc (suc (suc (suc (suc (suc p))))))) h d half = absurd (omega arith)
+
+-- the other way round
+pub more : (c q : ℤ) (p : ℕ) → p ≤ 6 → IsHalfEven c (pos (unit p)) q → IsHalfEven (c *ℤ pos (10 ^ p)) (pos 1000000) q
+more c q zero h (inl low) = inl (omega (arith, ints))
+more c q zero h (inr even) = inr (let e = even.0 in omega (arith, ints), even.1)
+more c q (suc zero) h (inl low) = inl (omega (arith, ints))
+more c q (suc zero) h (inr even) = inr (let e = even.0 in omega (arith, ints), even.1)
+more c q (suc (suc zero)) h (inl low) = inl (omega (arith, ints))
+more c q (suc (suc zero)) h (inr even) = inr (let e = even.0 in omega (arith, ints), even.1)
+more c q (suc (suc (suc zero))) h (inl low) = inl (omega (arith, ints))
+more c q (suc (suc (suc zero))) h (inr even) = inr (let e = even.0 in omega (arith, ints), even.1)
+more c q (suc (suc (suc (suc zero)))) h (inl low) = inl (omega (arith, ints))
+more c q (suc (suc (suc (suc zero)))) h (inr even) = inr (let e = even.0 in omega (arith, ints), even.1)
+more c q (suc (suc (suc (suc (suc zero))))) h (inl low) = inl (omega (arith, ints))
+more c q (suc (suc (suc (suc (suc zero))))) h (inr even) = inr (let e = even.0 in omega (arith, ints), even.1)
+more c q (suc (suc (suc (suc (suc (suc zero)))))) h (inl low) = inl (omega (arith, ints))
+more c q (suc (suc (suc (suc (suc (suc zero)))))) h (inr even) = inr (let e = even.0 in omega (arith, ints), even.1)
+more c q (suc (suc (suc (suc (suc (suc (suc p))))))) h half = absurd (omega arith)

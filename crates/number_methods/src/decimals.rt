@@ -1,6 +1,6 @@
 // Decimals that are made whole or rounded.
 
-ghost use Rattle.std.specs.Prelude.{◌≡◌, ◌≤◌, ◌^◌, pos, ◌*ℤ◌};
+ghost use Rattle.std.specs.Prelude.{◌≡◌, ◌≤◌, ◌^◌, ℤ, pos, ◌*ℤ◌};
 ghost use Rattle.std.specs.Prelude.{FitsSigned};
 ghost use Rattle.std.specs.Int.{w32};
 ghost use Rattle.std.specs.Option.{SomeIff};
@@ -25,7 +25,8 @@ pub fn to_integer(d: Dec) -> Option<i32>
 
 /// `round`: the nearest whole number, of two the even one. It always is a Long.
 pub fn nearest(d: Dec) -> i64
-    ensures { IsHalfEven d (pos 1000000) result }
+    ensures rounded { IsHalfEven d (pos 1000000) result }
+    ensures only { (q : ℤ) → IsHalfEven d (pos 1000000) q → q ≡ result }
 {
     match dec_mul(d, decimal_of(1)) {
         Ok(q) => q.millionths() as i64,
@@ -88,7 +89,8 @@ fn decimal_of(n: u32) -> Dec
 /// that is no Decimal.
 pub fn set_scale(d: Dec, places: usize) -> Result<Dec, NumFault>
     requires { places ≤ 6 }
-    ensures { Scales d places result }
+    ensures rounded { Scales d places result }
+    ensures only { (q : ℤ) → IsHalfEven d (pos (unit places)) q → Answers (q *ℤ pos (unit places)) result }
 {
     match dec_mul(d, decimal_of(share_of(places))) {
         Ok(q) => scaled(q, unit_of(places)),
