@@ -1,6 +1,6 @@
 // Text that is shared.
 
-ghost use Rattle.std.specs.Prelude.{◌≡◌, ◌↔◌, IsTrue, IfOk, IfNone, IfSome, OnOk};
+ghost use Rattle.std.specs.Prelude.{◌≡◌, ◌↔◌, IsTrue, IfOk, IfNone, IfSome, OnOk, string_bytes};
 ghost use Rattle.std.specs.Str.{IsUtf8};
 ghost use Rattle.std.specs.Cmp as Cmp;
 ghost use Rattle.std.specs.Hash as fed;
@@ -57,6 +57,24 @@ impl Text {
         Ok(Text {
             shared: Arc::new(alloc, bytes)?,
         })
+    }
+
+    /// The text of a string, whose bytes it takes over.
+    pub fn from_string(alloc: Global, text: String) -> Result<Text, NoMemory>
+        ensures { IfOk result (λ t. t ≡ string_bytes text) }
+    {
+        // A string slice tells the proof that its bytes are UTF-8.
+        let _told = text.as_str();
+        Ok(Text {
+            shared: Arc::new(alloc, text.into_bytes())?,
+        })
+    }
+
+    /// The text as a string slice. Nothing is looked at again.
+    pub fn as_str(&self) -> &str
+        ensures { result.now ≡ self.now }
+    {
+        unsafe { str::from_utf8_unchecked(self.shared.as_slice()) }
     }
 
     /// The bytes, which are UTF-8.
@@ -123,7 +141,10 @@ mod tests {
             assert_eq!(rt; text.is_some(), fine);
             if let Some(text) = text {
                 assert_eq!(rt; text.bytes(), bytes);
+                assert_eq!(rt; text.as_str().as_bytes(), bytes);
                 assert!(rt; text.copy()? == text);
+                let again = String::from_str(rt.alloc(), text.as_str())?;
+                assert!(rt; Text::from_string(rt.alloc(), again)? == text);
             }
         }
         Ok(())

@@ -13,7 +13,7 @@ use crate::names::{is_bad_name, name_of};
 use crate::objects::{is_link, is_master, target};
 use crate::places::Places;
 use crate::plan::{FieldPlan, ObjectPlan, PlanKind, PlanLength};
-use crate::planned::{named, standing, str_of};
+use crate::planned::{named, standing};
 use crate::reply::{Fault, FaultWord};
 use crate::schema::{Rollup, RollupBy};
 use crate::sets::{Children, Words};
@@ -394,8 +394,8 @@ pub fn field_fault(
 pub fn field_place(alloc: Global, object: &ObjectPlan, name: &Text) -> Result<String, NoMemory>
     ensures { IfOk result (λ place. string_bytes place ≡ spec.field_place object.now name.now) }
 {
-    let mut place = String::from_str(alloc, str_of(&object.name))?;
+    let mut place = String::from_str(alloc, object.name.as_str())?;
     place.push_str(".")?;
-    place.push_str(str_of(name))?;
+    place.push_str(name.as_str())?;
     Ok(place)
 }

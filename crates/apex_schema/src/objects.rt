@@ -10,7 +10,7 @@ ghost use Rattle.apex_schema.specs.Plans as spec;
 use crate::names::{is_bad_name, is_digit, is_letter, name_of};
 use crate::places::Places;
 use crate::plan::{FieldPlan, ObjectPlan, PlanKind, SchemaPlan};
-use crate::planned::{is_taken, named, names_of, standing, str_of};
+use crate::planned::{is_taken, named, names_of, standing};
 use crate::reply::{Fault, FaultWord};
 use apex_num::{NoMemory, Text};
 use apex_text::Name;
@@ -87,7 +87,7 @@ fn object_fault(
     ensures { IfOk result (λ fault. fault ≡ spec.object_fault plan.now at object.now) }
 {
     let word = object_word(alloc, plan, places, at, object, used)?;
-    standing(alloc, str_of(&object.name), word)
+    standing(alloc, object.name.as_str(), word)
 }
 
 // With one prefix more.

@@ -105,13 +105,3 @@ pub fn standing(
     let place = Text::from_str(alloc, place.as_str())?;
     Ok(Some(Fault { place, word }))
 }
-
-/// A text as std's.
-pub fn str_of(text: &Text) -> &str
-    ensures { result.now ≡ text.now }
-{
-    match str::from_utf8(text.bytes()) {
-        Ok(text) => text,
-        Err(_) => unreachable!(),
-    }
-}

@@ -7,7 +7,7 @@ use crate::chains::ends;
 use crate::names::{is_bad_name, name_of};
 use crate::places::Places;
 use crate::plan::{RolePlan, SchemaPlan, UserPlan};
-use crate::planned::{is_taken, named, standing, str_of};
+use crate::planned::{is_taken, named, standing};
 use crate::reply::{Fault, FaultWord};
 use apex_num::{NoMemory, Text};
 use std::alloc::Global;
@@ -85,7 +85,7 @@ fn role_fault(
     ensures { IfOk result (λ fault. fault ≡ spec.role_fault plan.now at role.now) }
 {
     let word = role_word(alloc, plan, places, at, role, ends)?;
-    standing(alloc, str_of(&role.name), word)
+    standing(alloc, role.name.as_str(), word)
 }
 
 /// The first fault of the roles.
@@ -151,7 +151,7 @@ fn user_fault(
     ensures { IfOk result (λ fault. fault ≡ spec.user_fault plan.now at user.now) }
 {
     let word = user_word(alloc, plan, roles, users, at, user)?;
-    standing(alloc, str_of(&user.name), word)
+    standing(alloc, user.name.as_str(), word)
 }
 
 /// The first fault of the users.

@@ -4,22 +4,14 @@
 #![tactic(auto)]
 
 use apex_io::{StdSource, read_all};
-use apex_num::Text;
 use bundle_read::{Bundle, BundleFault, TenantPlan, read_bundle};
 use std::alloc::{AllocError, Global};
+use std::env;
 use std::process::ExitCode;
 use std::time::Instant;
-use std::{env, str};
 
 // The greatest input that is read.
 const MOST_BYTES: usize = 1_000_000_000;
-
-fn str_of(text: &Text) -> &str {
-    match str::from_utf8(text.bytes()) {
-        Ok(text) => text,
-        Err(_) => "",
-    }
-}
 
 // How many rows the seed of a tenant has.
 fn seed_rows(tenant: &TenantPlan) -> usize {
@@ -41,7 +33,7 @@ fn requests(tenant: &TenantPlan) -> usize {
 fn add_tenant(alloc: Global, line: &mut String, tenant: &TenantPlan) -> Result<(), AllocError> {
     let schema = &tenant.schema;
     line.push_str(" ")?;
-    line.push_str(str_of(&tenant.name))?;
+    line.push_str(tenant.name.as_str())?;
     let people = format!(in alloc;
         " roles={} users={} objects={}",
         schema.roles.len(),
@@ -73,7 +65,7 @@ fn line_of(alloc: Global, bytes: &[u8]) -> Result<String, AllocError> {
         Ok(bundle) => told(alloc, &bundle),
         Err(BundleFault::Wrong(fault)) => {
             let word = fault.word;
-            format!(in alloc; "bad bundle at {}: {word}", str_of(&fault.place))
+            format!(in alloc; "bad bundle at {}: {word}", fault.place.as_str())
         }
         Err(BundleFault::NoMemory) => String::from_str(alloc, "no memory"),
     }

@@ -6,7 +6,6 @@ ghost use Rattle.bundle_read.specs.Readings.{IsFault, IsInner, here};
 use apex_num::{NoMemory, Text};
 use apex_schema::{Fault, FaultWord};
 use std::alloc::{AllocError, Global};
-use std::str;
 use thiserror::Error;
 
 /// Why bytes are no bundle.
@@ -42,22 +41,12 @@ pub fn wrong(alloc: Global, word: FaultWord) -> BundleFault
     }
 }
 
-/// A text as std's.
-pub fn str_of(text: &Text) -> &str
-    ensures { result.now ≡ text.now }
-{
-    match str::from_utf8(text.bytes()) {
-        Ok(text) => text,
-        Err(_) => unreachable!(),
-    }
-}
-
 // A place behind the name of a part.
 fn behind(alloc: Global, part: &str, place: &Text) -> Result<Text, NoMemory>
     ensures { IfOk result (λ t. t ≡ part.now ++ place.now) }
 {
     let mut all = String::from_str(alloc, part)?;
-    all.push_str(str_of(place))?;
+    all.push_str(place.as_str())?;
     Text::from_str(alloc, all.as_str())
 }
 

@@ -9,7 +9,7 @@ ghost use Rattle.bundle_read.specs.Readings.{Tells};
 
 use crate::bundle::bundle;
 use crate::entries::Bundle;
-use crate::fault::{BundleFault, str_of};
+use crate::fault::BundleFault;
 use apex_num::{NoMemory, Text};
 use apex_schema::{Fault, FaultWord};
 use serde_json::Value;
@@ -19,7 +19,7 @@ use std::alloc::Global;
 fn path(alloc: Global, place: &Text) -> Result<Text, NoMemory>
     ensures { IfOk result (λ t. t ≡ spec.path place.now) }
 {
-    match str_of(place).strip_prefix('.') {
+    match place.as_str().strip_prefix('.') {
         Some(rest) => Text::from_str(alloc, rest),
         None => Text::from_str(alloc, "json"),
     }
