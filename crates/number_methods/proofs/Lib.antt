@@ -1,1 +1,3 @@
 mod Near
+mod Read
+mod Round

@@ -7,6 +7,8 @@ ghost use Rattle.std.specs.Option.{SomeIff};
 ghost use Rattle.apex_num.specs.Decimals.{IsHalfEven, Answers};
 ghost use Rattle.number_methods.specs.Methods.{whole_of, unit, Scales};
 
+ghost use Rattle.number_methods.specs.Values.{half_even, scaled, in_range};
+
 use apex_num::{Dec, NumFault, dec_mul};
 
 /// `longValue`: the Decimal without what is behind its dot, towards zero. It always is a Long.
@@ -25,6 +27,7 @@ pub fn to_integer(d: Dec) -> Option<i32>
 
 /// `round`: the nearest whole number, of two the even one. It always is a Long.
 pub fn nearest(d: Dec) -> i64
+    ensures value { result ≡ half_even d 1000000 }
     ensures rounded { IsHalfEven d (pos 1000000) result }
     ensures only { (q : ℤ) → IsHalfEven d (pos 1000000) q → q ≡ result }
 {
@@ -89,6 +92,7 @@ fn decimal_of(n: u32) -> Dec
 /// that is no Decimal.
 pub fn set_scale(d: Dec, places: usize) -> Result<Dec, NumFault>
     requires { places ≤ 6 }
+    ensures value { result ≡ in_range (scaled d places) }
     ensures rounded { Scales d places result }
     ensures only { (q : ℤ) → IsHalfEven d (pos (unit places)) q → Answers (q *ℤ pos (unit places)) result }
 {

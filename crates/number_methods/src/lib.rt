@@ -7,7 +7,7 @@ mod texts;
 
 pub use decimals::{nearest, set_scale, to_integer, whole};
 pub use longs::{modulo, wrapped};
-pub use texts::{read_integer, read_long};
+pub use texts::{read_decimal, read_integer, read_long, read_long_text};
 
 #[cfg(test)]
 mod tests;

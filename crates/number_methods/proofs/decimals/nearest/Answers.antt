@@ -2,6 +2,8 @@ use Rattle.std.proofs.Common.{arith, ◌*ℤ◌, rules, ◌≤◌, ◌^◌, pos,
 use Rattle.std.proofs.lemmas.Int.{ints}
 use Rattle.apex_num.specs.Decimals.{IsHalfEven, IsDecimal}
 use Rattle.number_methods.proofs.Near.{more, near, once, decimal, back}
+use Rattle.number_methods.specs.Values.{half_even}
+use Rattle.number_methods.proofs.Round.{half_even_is}
 use Rattle.number_methods.proofs.decimals.nearest.Goals as goal
 
 pub overflow_cast-result : goal.overflow_cast-result
@@ -37,3 +39,6 @@ returns-clause-only c = λ q half.
     let size : unsigned_abs c.millionths.result ≤ 10 ^ 13 = subst (λ z. unsigned_abs z ≤ 10 ^ 13) (sym is) small in
     let same = c.in-Ok.ensures.only q (subst (λ s. IsHalfEven (c.args.d *ℤ s) (pos 1000000) q) (sym c.decimal_of.ensures) (more c.args.d q 0 (omega arith) half)) in
     sym same.0 ∙ sym (back c.millionths.result size ∙ c.millionths.ensures.value)
+
+pub returns-clause-value : goal.returns-clause-value
+returns-clause-value c = sym (returns-clause-only c (half_even c.args.d 1000000) (half_even_is c.args.d 1000000 (omega arith)))

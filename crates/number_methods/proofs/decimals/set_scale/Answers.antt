@@ -1,6 +1,9 @@
-use Rattle.std.proofs.Common.{rules, ◌≡◌, ◌^◌, ◌*ℤ◌, pos, ap, sym, ◌∙◌, subst}
+use Rattle.std.proofs.Common.{rules, ◌-◌, ◌≡◌, ◌^◌, ◌*ℤ◌, pos, ap, sym, ◌∙◌, subst}
 use Rattle.apex_num.specs.Decimals.{IsHalfEven, IsDecimal, Answers}
 use Rattle.number_methods.proofs.Near.{more, fewer, share}
+use Rattle.number_methods.specs.Methods.{unit}
+use Rattle.number_methods.specs.Values.{half_even, scaled}
+use Rattle.number_methods.proofs.Round.{half_even_is, answered, pow_pos}
 use Rattle.number_methods.proofs.decimals.set_scale.Goals as goal
 
 pub unreachable-requires : goal.unreachable-requires
@@ -25,3 +28,7 @@ returns-clause-only c = λ q half.
     let whole : c.decimal_of.result ≡ pos (10 ^ c.args.places) = c.decimal_of.ensures ∙ ap pos c.share_of.ensures in
     let same = c.in-Ok.ensures.only q (subst (λ s. IsHalfEven (c.args.d *ℤ s) (pos 1000000) q) (sym whole) (more c.args.d q c.args.places c.requires half)) in
     subst (λ u. Answers (q *ℤ pos u) c.scaled.result) c.unit_of.ensures (subst (λ x. Answers (x *ℤ pos c.unit_of.result) c.scaled.result) same.0 c.scaled.ensures)
+
+pub returns-clause-value : goal.returns-clause-value
+returns-clause-value c =
+    answered (scaled c.args.d c.args.places) c.scaled.result (returns-clause-only c (half_even c.args.d (unit c.args.places)) (half_even_is c.args.d (unit c.args.places) (pow_pos (6 - c.args.places))))

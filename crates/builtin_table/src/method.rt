@@ -1,0 +1,158 @@
+// The methods on primitives, by what they take.
+
+/// A method of a String that takes nothing else.
+#[derive(Clone, Copy, Debug, PartialEq, Eq, Hash, Drop)]
+pub enum TextMethod {
+    Length,
+    ToLowerCase,
+    ToUpperCase,
+    Capitalize,
+    Uncapitalize,
+    Trim,
+    Reverse,
+    IsNumeric,
+}
+
+/// A method of a String that takes a String.
+#[derive(Clone, Copy, Debug, PartialEq, Eq, Hash, Drop)]
+pub enum TextsMethod {
+    Contains,
+    StartsWith,
+    EndsWith,
+    IndexOf,
+    LastIndexOf,
+    Equals,
+    EqualsIgnoreCase,
+    CompareTo,
+    Remove,
+    RemoveStart,
+    RemoveEnd,
+    CountMatches,
+    SubstringBefore,
+    SubstringAfter,
+}
+
+/// A method of a String that takes an Integer.
+#[derive(Clone, Copy, Debug, PartialEq, Eq, Hash, Drop)]
+pub enum TextAtMethod {
+    Substring,
+    Left,
+    Right,
+    Repeat,
+    LeftPad,
+    RightPad,
+}
+
+/// A static method of String that takes a String or null.
+#[derive(Clone, Copy, Debug, PartialEq, Eq, Hash, Drop)]
+pub enum NullableMethod {
+    IsBlank,
+    IsNotBlank,
+    IsEmpty,
+    IsNotEmpty,
+}
+
+/// A static `valueOf` that reads a String.
+#[derive(Clone, Copy, Debug, PartialEq, Eq, Hash, Drop)]
+pub enum ReadMethod {
+    /// `Integer.valueOf`.
+    Integer,
+    /// `Long.valueOf`.
+    Long,
+    /// `Decimal.valueOf`.
+    Decimal,
+    /// `Date.valueOf`.
+    Date,
+    /// `Datetime.valueOfGmt`.
+    Moment,
+    /// `Id.valueOf`.
+    Id,
+}
+
+/// A method of Math.
+#[derive(Clone, Copy, Debug, PartialEq, Eq, Hash, Drop)]
+pub enum MathMethod {
+    /// `abs` of Longs and Decimals.
+    Abs,
+    /// `abs` of Integers, whose smallest is its own.
+    AbsInteger,
+    Signum,
+    Max,
+    Min,
+    Mod,
+}
+
+/// A method of a Decimal, or `intValue` of a Long.
+#[derive(Clone, Copy, Debug, PartialEq, Eq, Hash, Drop)]
+pub enum DecimalMethod {
+    /// Of a Long it is what 32 bits hold.
+    IntValue,
+    LongValue,
+    Round,
+    Abs,
+    ToPlainString,
+}
+
+/// A method of a Date.
+#[derive(Clone, Copy, Debug, PartialEq, Eq, Hash, Drop)]
+pub enum DateMethod {
+    Year,
+    Month,
+    Day,
+    ToStartOfMonth,
+    AddDays,
+    AddMonths,
+    AddYears,
+    DaysBetween,
+}
+
+/// A method of a Datetime.
+#[derive(Clone, Copy, Debug, PartialEq, Eq, Hash, Drop)]
+pub enum MomentMethod {
+    GetTime,
+    Date,
+    Year,
+    Month,
+    Day,
+    Hour,
+    Minute,
+    Second,
+    AddDays,
+    AddHours,
+    AddMinutes,
+    AddSeconds,
+}
+
+/// A method of the platform, found once by its type, its name and the number of its arguments.
+#[derive(Clone, Copy, Debug, PartialEq, Eq, Hash, Drop)]
+pub enum Builtin {
+    Text(TextMethod),
+    Texts(TextsMethod),
+    TextAt(TextAtMethod),
+    /// `indexOf(t, n)`.
+    IndexOfFrom,
+    /// `substring(n, m)`.
+    SubstringTo,
+    /// `mid(n, m)`.
+    Mid,
+    /// `replace(t, u)`.
+    Replace,
+    Nullable(NullableMethod),
+    /// `String.valueOf(x)`.
+    TextOf,
+    Read(ReadMethod),
+    Math(MathMethod),
+    Decimal(DecimalMethod),
+    /// `setScale(n)`.
+    SetScale,
+    Date(DateMethod),
+    /// `Date.newInstance(y, m, d)`.
+    NewDate,
+    /// `Date.daysInMonth(y, m)`.
+    DaysInMonth,
+    /// `Date.isLeapYear(y)`.
+    IsLeapYear,
+    Moment(MomentMethod),
+    /// `Datetime.newInstanceGmt(y, m, d, h, mi, s)`.
+    NewMoment,
+}

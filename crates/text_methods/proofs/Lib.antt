@@ -1,0 +1,4 @@
+mod Counts
+mod Halves
+mod Occurs
+mod Walks
