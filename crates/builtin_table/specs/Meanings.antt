@@ -1,6 +1,6 @@
 -- What each method answers (docs/language.md, "Built-in methods"). The first of the arguments is the receiver, where there
 -- is one.
-use Rattle.std.specs.Prelude.{ℕ, zero, ◌+◌, ◌-◌, ◌*◌, ◌/◌, ◌%◌, ◌^◌, ◌&&◌, ◌||◌, not, nat_lt, nat_le, eqb, cond, Bool, true, false, List, [], ◌∷◌, ◌++◌, length, take, map, reverse, chars, encode_utf8_all, bytes_eq, ℤ, pos, negsuc, ◌+ℤ◌, ◌-ℤ◌, ◌*ℤ◌, unsigned_abs, int_rem, int_lt, Option, None, Some, Result, Ok, Err, is_some}
+use Rattle.std.specs.Prelude.{ℕ, zero, ◌+◌, ◌-◌, ◌*◌, ◌/◌, ◌%◌, ◌^◌, ◌&&◌, ◌||◌, not, nat_lt, nat_le, eqb, cond, Bool, true, false, List, [], ◌∷◌, ◌++◌, length, take, drop, map, reverse, chars, encode_utf8_all, bytes_eq, ℤ, pos, negsuc, ◌+ℤ◌, ◌-ℤ◌, ◌*ℤ◌, unsigned_abs, int_rem, int_lt, Option, None, Some, Result, Ok, Err, is_some}
 use Rattle.std.specs.List.{list_all, list_any}
 use Rattle.std.specs.Char.{to_ascii_uppercase, to_ascii_lowercase}
 use Rattle.std.specs.Str.{str_eq_ignore_ascii_case}
@@ -199,12 +199,30 @@ decimals_math M.Max x y = Gives (Cells.Num (int_max x y))
 decimals_math M.Min x y = Gives (Cells.Num (int_min x y))
 decimals_math _ x y = invalid_conversion
 
+-- one or two numbers of one type
+pub data Numbers : Type 0 where
+  whole : ℤ → Numbers
+  decimal : ℤ → Numbers
+  wholes : ℤ → ℤ → Numbers
+  decimals : ℤ → ℤ → Numbers
+  neither : Numbers
+
+abbrev pub numbers : List Cell → Numbers
+numbers (Cells.Whole x ∷ []) = whole x
+numbers (Cells.Num x ∷ []) = decimal x
+numbers (Cells.Whole x ∷ (Cells.Whole y ∷ [])) = wholes x y
+numbers (Cells.Num x ∷ (Cells.Num y ∷ [])) = decimals x y
+numbers _ = neither
+
+abbrev pub math_by : MathMethod → Numbers → Answer
+math_by m (whole x) = whole_math m x
+math_by m (decimal x) = decimal_math m x
+math_by m (wholes x y) = wholes_math m x y
+math_by m (decimals x y) = decimals_math m x y
+math_by m neither = invalid_conversion
+
 abbrev pub math_meaning : MathMethod → List Cell → Answer
-math_meaning m (Cells.Whole x ∷ []) = whole_math m x
-math_meaning m (Cells.Num x ∷ []) = decimal_math m x
-math_meaning m (Cells.Whole x ∷ (Cells.Whole y ∷ [])) = wholes_math m x y
-math_meaning m (Cells.Num x ∷ (Cells.Num y ∷ [])) = decimals_math m x y
-math_meaning m _ = invalid_conversion
+math_meaning m args = math_by m (numbers args)
 
 abbrev pub decimal_meaning : DecimalMethod → ℤ → Answer
 decimal_meaning D.IntValue c = whole_or (only_if integer_fits (Some (whole_of c))) out_of_range
@@ -217,9 +235,17 @@ abbrev pub scaled_or : Result ℤ NumFault → Answer
 scaled_or (Ok c) = Gives (Cells.Num c)
 scaled_or (Err fault) = out_of_range
 
+-- so many digits behind the dot, from 0 to 6
+abbrev pub places : ℤ → Option ℕ
+places (pos n) = cond (nat_le n 6) (Some n) None
+places (negsuc n) = None
+
+abbrev pub scale_by : ℤ → Option ℕ → Answer
+scale_by c (Some n) = scaled_or (in_range (scaled c n))
+scale_by c None = out_of_range
+
 abbrev pub set_scale_meaning : ℤ → ℤ → Answer
-set_scale_meaning c (pos n) = cond (nat_le n 6) (scaled_or (in_range (scaled c n))) out_of_range
-set_scale_meaning c (negsuc n) = out_of_range
+set_scale_meaning c n = scale_by c (places n)
 
 -- ---- Date and Datetime
 
@@ -243,19 +269,20 @@ abbrev pub dates_meaning : DateMethod → ℤ → ℤ → Answer
 dates_meaning Y.DaysBetween a b = number (b -ℤ a)
 dates_meaning _ a b = invalid_conversion
 
-abbrev pub of_moment : ℤ → Answer → Answer
-of_moment n a = cond (dates.is_moment n) a invalid_date
+-- what a moment has of its day and of its second
+abbrev pub moment_part : MomentMethod → ℤ → ℤ → ℕ → Answer
+moment_part C.GetTime n day second = number (n *ℤ pos 1000)
+moment_part C.Date n day second = Gives (Cells.Day day)
+moment_part C.Year n day second = of_date day (λ (d : dates.Date). d.year)
+moment_part C.Month n day second = of_date day (λ (d : dates.Date). d.month)
+moment_part C.Day n day second = of_date day (λ (d : dates.Date). d.day)
+moment_part C.Hour n day second = count (second / 3600)
+moment_part C.Minute n day second = count (second / 60 % 60)
+moment_part C.Second n day second = count (second % 60)
+moment_part _ n day second = invalid_conversion
 
 abbrev pub moment_meaning : MomentMethod → ℤ → Answer
-moment_meaning C.GetTime n = of_moment n (number (n *ℤ pos 1000))
-moment_meaning C.Date n = of_moment n (Gives (Cells.Day (dates.day_part n)))
-moment_meaning C.Year n = of_date (dates.day_part n) (λ (d : dates.Date). d.year)
-moment_meaning C.Month n = of_date (dates.day_part n) (λ (d : dates.Date). d.month)
-moment_meaning C.Day n = of_date (dates.day_part n) (λ (d : dates.Date). d.day)
-moment_meaning C.Hour n = of_moment n (count (dates.second_part n / 3600))
-moment_meaning C.Minute n = of_moment n (count (dates.second_part n / 60 % 60))
-moment_meaning C.Second n = of_moment n (count (dates.second_part n % 60))
-moment_meaning _ n = invalid_conversion
+moment_meaning m n = cond (dates.is_moment n) (moment_part m n (dates.day_part n) (dates.second_part n)) invalid_date
 
 abbrev pub moment_later_meaning : MomentMethod → ℤ → ℤ → Answer
 moment_later_meaning C.AddDays n k = moment_or (dates.only_moment (n +ℤ k *ℤ pos 86400))
@@ -270,85 +297,120 @@ leap_or None = invalid_date
 
 -- ---- by the arguments
 
-abbrev pub on_text : (List ℕ → Answer) → List Cell → Answer
-on_text f (Cells.Text s ∷ []) = f s
-on_text f _ = invalid_conversion
+-- what a method answers where its arguments are of its types
+abbrev pub on : {A : Type 0} → (A → Answer) → Option A → Answer
+on f (Some a) = f a
+on f None = invalid_conversion
 
-abbrev pub on_texts : (List ℕ → List ℕ → Answer) → List Cell → Answer
-on_texts f (Cells.Text s ∷ (Cells.Text t ∷ [])) = f s t
-on_texts f _ = invalid_conversion
+abbrev pub one_text : List Cell → Option (List ℕ)
+one_text (Cells.Text s ∷ []) = Some s
+one_text _ = None
 
-abbrev pub on_three_texts : (List ℕ → List ℕ → List ℕ → Answer) → List Cell → Answer
-on_three_texts f (Cells.Text s ∷ (Cells.Text t ∷ (Cells.Text u ∷ []))) = f s t u
-on_three_texts f _ = invalid_conversion
+abbrev pub two_texts : List Cell → Option (List ℕ × List ℕ)
+two_texts (Cells.Text s ∷ (Cells.Text t ∷ [])) = Some (s , t)
+two_texts _ = None
 
-abbrev pub on_text_at : (List ℕ → ℤ → Answer) → List Cell → Answer
-on_text_at f (Cells.Text s ∷ (Cells.Whole n ∷ [])) = f s n
-on_text_at f _ = invalid_conversion
+abbrev pub three_texts : List Cell → Option (List ℕ × List ℕ × List ℕ)
+three_texts (Cells.Text s ∷ (Cells.Text t ∷ (Cells.Text u ∷ []))) = Some (s , t , u)
+three_texts _ = None
 
-abbrev pub on_text_at_two : (List ℕ → ℤ → ℤ → Answer) → List Cell → Answer
-on_text_at_two f (Cells.Text s ∷ (Cells.Whole n ∷ (Cells.Whole m ∷ []))) = f s n m
-on_text_at_two f _ = invalid_conversion
+abbrev pub text_and_whole : List Cell → Option (List ℕ × ℤ)
+text_and_whole (Cells.Text s ∷ (Cells.Whole n ∷ [])) = Some (s , n)
+text_and_whole _ = None
 
-abbrev pub on_texts_at : (List ℕ → List ℕ → ℤ → Answer) → List Cell → Answer
-on_texts_at f (Cells.Text s ∷ (Cells.Text t ∷ (Cells.Whole n ∷ []))) = f s t n
-on_texts_at f _ = invalid_conversion
+abbrev pub text_and_wholes : List Cell → Option (List ℕ × ℤ × ℤ)
+text_and_wholes (Cells.Text s ∷ (Cells.Whole n ∷ (Cells.Whole m ∷ []))) = Some (s , n , m)
+text_and_wholes _ = None
 
-abbrev pub on_number : DecimalMethod → List Cell → Answer
-on_number m (Cells.Num c ∷ []) = decimal_meaning m c
-on_number D.IntValue (Cells.Whole n ∷ []) = number (int_wrap w32 n)
-on_number m _ = invalid_conversion
+abbrev pub texts_and_whole : List Cell → Option (List ℕ × List ℕ × ℤ)
+texts_and_whole (Cells.Text s ∷ (Cells.Text t ∷ (Cells.Whole n ∷ []))) = Some (s , t , n)
+texts_and_whole _ = None
 
-abbrev pub on_scale : List Cell → Answer
-on_scale (Cells.Num c ∷ (Cells.Whole n ∷ [])) = set_scale_meaning c n
-on_scale _ = invalid_conversion
+abbrev pub decimal_and_whole : List Cell → Option (ℤ × ℤ)
+decimal_and_whole (Cells.Num c ∷ (Cells.Whole n ∷ [])) = Some (c , n)
+decimal_and_whole _ = None
 
-abbrev pub on_date : DateMethod → List Cell → Answer
-on_date m (Cells.Day n ∷ []) = date_meaning m n
-on_date m (Cells.Day n ∷ (Cells.Whole k ∷ [])) = date_later_meaning m n k
-on_date m (Cells.Day a ∷ (Cells.Day b ∷ [])) = dates_meaning m a b
-on_date m _ = invalid_conversion
+abbrev pub one_whole : List Cell → Option ℤ
+one_whole (Cells.Whole n ∷ []) = Some n
+one_whole _ = None
 
-abbrev pub on_moment : MomentMethod → List Cell → Answer
-on_moment m (Cells.Moment n ∷ []) = moment_meaning m n
-on_moment m (Cells.Moment n ∷ (Cells.Whole k ∷ [])) = moment_later_meaning m n k
-on_moment m _ = invalid_conversion
+abbrev pub two_wholes : List Cell → Option (ℤ × ℤ)
+two_wholes (Cells.Whole a ∷ (Cells.Whole b ∷ [])) = Some (a , b)
+two_wholes _ = None
 
-abbrev pub on_whole : (ℤ → Answer) → List Cell → Answer
-on_whole f (Cells.Whole n ∷ []) = f n
-on_whole f _ = invalid_conversion
+abbrev pub three_wholes : List Cell → Option (ℤ × ℤ × ℤ)
+three_wholes (Cells.Whole a ∷ (Cells.Whole b ∷ (Cells.Whole c ∷ []))) = Some (a , b , c)
+three_wholes _ = None
 
-abbrev pub on_wholes : (ℤ → ℤ → Answer) → List Cell → Answer
-on_wholes f (Cells.Whole n ∷ (Cells.Whole m ∷ [])) = f n m
-on_wholes f _ = invalid_conversion
+-- `intValue` of a Long: what 32 bits hold of it
+abbrev pub long_meaning : DecimalMethod → ℤ → Answer
+long_meaning D.IntValue n = number (int_wrap w32 n)
+long_meaning _ n = invalid_conversion
 
-abbrev pub on_three_wholes : (ℤ → ℤ → ℤ → Answer) → List Cell → Answer
-on_three_wholes f (Cells.Whole a ∷ (Cells.Whole b ∷ (Cells.Whole c ∷ []))) = f a b c
-on_three_wholes f _ = invalid_conversion
+abbrev pub number_by : DecimalMethod → Numbers → Answer
+number_by m (decimal c) = decimal_meaning m c
+number_by m (whole n) = long_meaning m n
+number_by m _ = invalid_conversion
 
-abbrev pub on_six_wholes : (ℤ → ℤ → ℤ → ℤ → ℤ → ℤ → Answer) → List Cell → Answer
-on_six_wholes f (Cells.Whole a ∷ (Cells.Whole b ∷ (Cells.Whole c ∷ (Cells.Whole d ∷ (Cells.Whole e ∷ (Cells.Whole g ∷ [])))))) = f a b c d e g
-on_six_wholes f _ = invalid_conversion
+-- a Date, with nothing, a number or another
+pub data Dates : Type 0 where
+  date : ℤ → Dates
+  date_and : ℤ → ℤ → Dates
+  two_dates : ℤ → ℤ → Dates
+  no_date : Dates
+
+abbrev pub dated : List Cell → Dates
+dated (Cells.Day n ∷ []) = date n
+dated (Cells.Day n ∷ (Cells.Whole k ∷ [])) = date_and n k
+dated (Cells.Day a ∷ (Cells.Day b ∷ [])) = two_dates a b
+dated _ = no_date
+
+abbrev pub date_by : DateMethod → Dates → Answer
+date_by m (date n) = date_meaning m n
+date_by m (date_and n k) = date_later_meaning m n k
+date_by m (two_dates a b) = dates_meaning m a b
+date_by m no_date = invalid_conversion
+
+-- a Datetime, with nothing or a number
+pub data Moments : Type 0 where
+  moment : ℤ → Moments
+  moment_and : ℤ → ℤ → Moments
+  no_moment : Moments
+
+abbrev pub timed : List Cell → Moments
+timed (Cells.Moment n ∷ []) = moment n
+timed (Cells.Moment n ∷ (Cells.Whole k ∷ [])) = moment_and n k
+timed _ = no_moment
+
+abbrev pub moment_by : MomentMethod → Moments → Answer
+moment_by m (moment n) = moment_meaning m n
+moment_by m (moment_and n k) = moment_later_meaning m n k
+moment_by m no_moment = invalid_conversion
+
+-- a date and a time
+abbrev pub new_moment_meaning : Option (ℤ × ℤ × ℤ) → Option (ℤ × ℤ × ℤ) → Answer
+new_moment_meaning (Some d) (Some t) = moment_or (dates.new_moment d.0 d.1 d.2 t.0 t.1 t.2)
+new_moment_meaning _ _ = invalid_conversion
 
 -- where none is null
 abbrev pub plain : Builtin → List Cell → Answer
-plain (B.Text m) args = on_text (text_meaning m) args
-plain (B.Texts m) args = on_texts (texts_meaning m) args
-plain (B.TextAt m) args = on_text_at (text_at_meaning m) args
-plain B.IndexOfFrom args = on_texts_at (λ s t n. place (texts.first_from (texts.place n) (chars t) (chars s))) args
-plain B.SubstringTo args = on_text_at_two (λ s n m. part (texts.part n m (chars s))) args
-plain B.Mid args = on_text_at_two (λ s n m. spelled (texts.mid n m (chars s))) args
-plain B.Replace args = on_three_texts (λ s t u. spelled (texts.replace (chars t) (chars u) (chars s))) args
-plain (B.Read m) args = on_text (read_meaning m) args
+plain (B.Text m) args = on (text_meaning m) (one_text args)
+plain (B.Texts m) args = on (λ (p : List ℕ × List ℕ). texts_meaning m p.0 p.1) (two_texts args)
+plain (B.TextAt m) args = on (λ (p : List ℕ × ℤ). text_at_meaning m p.0 p.1) (text_and_whole args)
+plain B.IndexOfFrom args = on (λ (p : List ℕ × List ℕ × ℤ). place (texts.first_from (texts.place p.2) (chars p.1) (chars p.0))) (texts_and_whole args)
+plain B.SubstringTo args = on (λ (p : List ℕ × ℤ × ℤ). part (texts.part p.1 p.2 (chars p.0))) (text_and_wholes args)
+plain B.Mid args = on (λ (p : List ℕ × ℤ × ℤ). spelled (texts.mid p.1 p.2 (chars p.0))) (text_and_wholes args)
+plain B.Replace args = on (λ (p : List ℕ × List ℕ × List ℕ). spelled (texts.replace (chars p.1) (chars p.2) (chars p.0))) (three_texts args)
+plain (B.Read m) args = on (read_meaning m) (one_text args)
 plain (B.Math m) args = math_meaning m args
-plain (B.Decimal m) args = on_number m args
-plain B.SetScale args = on_scale args
-plain (B.Date m) args = on_date m args
-plain B.NewDate args = on_three_wholes (λ y m d. day_or (dates.new_day y m d)) args
-plain B.DaysInMonth args = on_wholes (λ y m. whole_or (dates.days_in y m) invalid_date) args
-plain B.IsLeapYear args = on_whole (λ y. leap_or (dates.leap y)) args
-plain (B.Moment m) args = on_moment m args
-plain B.NewMoment args = on_six_wholes (λ y m d h mi s. moment_or (dates.new_moment y m d h mi s)) args
+plain (B.Decimal m) args = number_by m (numbers args)
+plain B.SetScale args = on (λ (p : ℤ × ℤ). set_scale_meaning p.0 p.1) (decimal_and_whole args)
+plain (B.Date m) args = date_by m (dated args)
+plain B.NewDate args = on (λ (p : ℤ × ℤ × ℤ). day_or (dates.new_day p.0 p.1 p.2)) (three_wholes args)
+plain B.DaysInMonth args = on (λ (p : ℤ × ℤ). whole_or (dates.days_in p.0 p.1) invalid_date) (two_wholes args)
+plain B.IsLeapYear args = on (λ y. leap_or (dates.leap y)) (one_whole args)
+plain (B.Moment m) args = moment_by m (timed args)
+plain B.NewMoment args = new_moment_meaning (three_wholes (take 3 args)) (three_wholes (drop 3 args))
 plain _ args = invalid_conversion
 
 abbrev pub is_null : Cell → Bool

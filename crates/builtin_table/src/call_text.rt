@@ -17,12 +17,12 @@ pub(crate) fn text_method(alloc: Global, method: TextMethod, s: &str) -> Call
 {
     match method {
         TextMethod::Length => Ok(Cell::Whole(text_methods::length(s) as i64)),
-        TextMethod::ToLowerCase => made(alloc, s.to_ascii_lowercase(alloc)),
-        TextMethod::ToUpperCase => made(alloc, s.to_ascii_uppercase(alloc)),
-        TextMethod::Capitalize => made(alloc, text_methods::capitalize(alloc, s)),
-        TextMethod::Uncapitalize => made(alloc, text_methods::uncapitalize(alloc, s)),
+        TextMethod::ToLowerCase => made(alloc, s.to_ascii_lowercase(alloc)?),
+        TextMethod::ToUpperCase => made(alloc, s.to_ascii_uppercase(alloc)?),
+        TextMethod::Capitalize => made(alloc, text_methods::capitalize(alloc, s)?),
+        TextMethod::Uncapitalize => made(alloc, text_methods::uncapitalize(alloc, s)?),
         TextMethod::Trim => copied(alloc, text_methods::trim(s)),
-        TextMethod::Reverse => made(alloc, text_methods::reverse(alloc, s)),
+        TextMethod::Reverse => made(alloc, text_methods::reverse(alloc, s)?),
         TextMethod::IsNumeric => Ok(Cell::Bool(text_methods::is_numeric(s))),
     }
 }
@@ -50,7 +50,7 @@ pub(crate) fn texts_method(alloc: Global, method: TextsMethod, s: &str, t: &str)
         TextsMethod::Equals => Ok(Cell::Bool(s.as_bytes() == t.as_bytes())),
         TextsMethod::EqualsIgnoreCase => Ok(Cell::Bool(s.eq_ignore_ascii_case(t))),
         TextsMethod::CompareTo => Ok(Cell::Whole(compared(s.cmp(t)))),
-        TextsMethod::Remove => made(alloc, text_methods::replace(alloc, s, t, "")),
+        TextsMethod::Remove => made(alloc, text_methods::replace(alloc, s, t, "")?),
         TextsMethod::RemoveStart => copied(alloc, text_methods::without_start(s, t)),
         TextsMethod::RemoveEnd => copied(alloc, text_methods::without_end(s, t)),
         TextsMethod::CountMatches => Ok(Cell::Whole(text_methods::count_matches(s, t) as i64)),
@@ -67,9 +67,9 @@ pub(crate) fn text_at_method(alloc: Global, method: TextAtMethod, s: &str, n: i6
         TextAtMethod::Substring => part(alloc, text_methods::part_from(s, n)),
         TextAtMethod::Left => copied(alloc, text_methods::left(s, n)),
         TextAtMethod::Right => copied(alloc, text_methods::right(s, n)),
-        TextAtMethod::Repeat => made(alloc, text_methods::repeated(alloc, s, n)),
-        TextAtMethod::LeftPad => made(alloc, text_methods::left_pad(alloc, s, n)),
-        TextAtMethod::RightPad => made(alloc, text_methods::right_pad(alloc, s, n)),
+        TextAtMethod::Repeat => made(alloc, text_methods::repeated(alloc, s, n)?),
+        TextAtMethod::LeftPad => made(alloc, text_methods::left_pad(alloc, s, n)?),
+        TextAtMethod::RightPad => made(alloc, text_methods::right_pad(alloc, s, n)?),
     }
 }
 

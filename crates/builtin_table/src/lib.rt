@@ -1,12 +1,20 @@
 //! The built-in methods of Apex: what each answers or throws.
 #![tactic(auto)]
 
+mod call;
+mod call_date;
+mod call_number;
 mod call_text;
 mod exception;
 mod method;
+mod shown;
+mod size;
 mod values;
 
+pub use call::call_builtin;
 pub use exception::{BuiltinEnd, ExceptionClass};
+pub use shown::{text_length, text_of};
+pub use size::text_size;
 pub use method::{
     Builtin, DateMethod, DecimalMethod, MathMethod, MomentMethod, NullableMethod, ReadMethod,
     TextAtMethod, TextMethod, TextsMethod,

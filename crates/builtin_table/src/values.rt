@@ -1,12 +1,12 @@
 // Values as answers.
 
-ghost use Rattle.std.specs.Prelude.{◌≡◌, ◌<◌, ◌^◌, string_bytes, MatchResult, MatchOption, IfSome};
-ghost use Rattle.builtin_table.specs.Answers.{Answers, Answer, Gives, out_of_bounds, out_of_range};
+ghost use Rattle.std.specs.Prelude.{◌≡◌, ◌<◌, ◌^◌, string_bytes, MatchOption, IfSome};
+ghost use Rattle.builtin_table.specs.Answers.{Answers, Gives, out_of_bounds, out_of_range};
 ghost use Rattle.builtin_table.specs.Meanings as spec;
 
 use crate::exception::{BuiltinEnd, ExceptionClass, invalid_date, out_of_range, thrown};
 use apex_num::{Cell, Dec, Text};
-use std::alloc::{AllocError, Global};
+use std::alloc::Global;
 
 /// The answer of a method.
 pub(crate) type Call = Result<Cell, BuiltinEnd>;
@@ -22,12 +22,9 @@ pub(crate) fn copied(alloc: Global, text: &str) -> Call
 }
 
 /// A text that was made.
-pub(crate) fn made(alloc: Global, text: Result<String, AllocError>) -> Call
-    ensures { MatchResult text (λ t. Answers (spec.text (string_bytes t)) result) (λ _. (a : Answer) → Answers a result) }
+pub(crate) fn made(alloc: Global, text: String) -> Call
+    ensures { Answers (spec.text (string_bytes text)) result }
 {
-    let Ok(text) = text else {
-        return Err(BuiltinEnd::NoMemory);
-    };
     match Text::from_string(alloc, text) {
         Ok(text) => Ok(Cell::Text(text)),
         Err(_) => Err(BuiltinEnd::NoMemory),
@@ -46,10 +43,10 @@ pub(crate) fn place(place: Option<usize>) -> Cell
 }
 
 /// A part of a text, or the exception.
-pub(crate) fn part(alloc: Global, part: Option<&str>) -> Call
-    ensures { MatchOption part (Answers out_of_bounds result) (λ s. Answers (spec.text s.now) result) }
+pub(crate) fn part(alloc: Global, cut: Option<&str>) -> Call
+    ensures { MatchOption cut.entry (Answers out_of_bounds result) (λ s. Answers (spec.text s.now) result) }
 {
-    match part {
+    match cut {
         Some(text) => copied(alloc, text),
         None => Err(thrown(
             alloc,

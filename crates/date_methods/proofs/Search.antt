@@ -118,6 +118,7 @@ since n y m d h =
     omega (arith, ints)
 
 pub date_at_is : (n : ℤ) (y m d : ℕ) → IsDateOf n y m d → date_at n ≡ record { year = y; month = m; day = d }
+unfolding date_at
 date_at_is n y m d h =
     let civil = h.0 in
     let rest = days_of_months (pos y) (m - 1) + (d - 1) in

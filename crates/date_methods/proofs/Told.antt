@@ -1,8 +1,9 @@
 -- What the functions tell is what the relations mean.
-use Rattle.std.proofs.Common.{arith, le_refl, ◌≡◌, ◌<◌, ◌≤◌, ◌+◌, ◌-◌, ◌*◌, ◌/◌, ◌%◌, ℕ, Bool, neg_ℤ, true, false, cond, ◌&&◌, leb, ltb, eqb, ◌||◌, w32, w64, lt-ltb, ltb-true, ℤ, pos, negsuc, ◌+ℤ◌, ◌-ℤ◌, ◌*ℤ◌, Option, None, Some, MatchOption, refl, sym, ap, ap₂, ◌∙◌, subst, le-leb, leb-true}
+use Rattle.std.proofs.Common.{arith, le_refl, ◌≡◌, ◌<◌, ◌≤◌, ◌+◌, ◌-◌, ◌*◌, ◌/◌, ◌%◌, ℕ, Bool, neg_ℤ, ◌≤ℤ◌, unsigned_abs, ◌^◌, true, false, cond, ◌&&◌, leb, ltb, eqb, ◌||◌, w32, w64, lt-ltb, ltb-true, ℤ, pos, negsuc, ◌+ℤ◌, ◌-ℤ◌, ◌*ℤ◌, Option, None, Some, MatchOption, refl, sym, ap, ap₂, ◌∙◌, subst, le-leb, leb-true}
 use Rattle.std.specs.Bool.{Decides}
 use Rattle.std.specs.Prelude.{FitsSigned}
 use Rattle.std.specs.Ordering.{int_eq}
+use Rattle.std.proofs.lemmas.Int.{ints}
 use Rattle.jiff_core.proofs.SignedLemmas.{signed_arith}
 use Rattle.std.proofs.lemmas.Bool.Decides.{Decides-and, Decides-like, Decides-int_eq}
 use Rattle.std.proofs.lemmas.Bool.{false_from_ne_true, and_from, and_parts}
@@ -26,10 +27,12 @@ civil_and : (n : ℤ) (d : Date) → Decides (is_civil d.year d.month d.day && i
 civil_and n d = Decides-and _ _ (civil_decide d.year d.month d.day) (Decides-int_eq n (number_of d))
 
 pub day_so : (n : ℤ) (y m d : ℕ) → IsDateOf n y m d → is_day n ≡ true
+unfolding is_day
 day_so n y m d h =
     subst (λ (at : Date). (is_civil at.year at.month at.day && int_eq n (number_of at)) ≡ true) (sym (date_at_is n y m d h)) ((civil_and n (record { year = y; month = m; day = d })).1 (h.0 , h.1))
 
 pub day_is : (n : ℤ) → is_day n ≡ true → IsDateOf n (date_at n).year (date_at n).month (date_at n).day
+unfolding is_day
 day_is n t = let h = (civil_and n (date_at n)).0 t in (h.0 , h.1)
 
 pub day_decide : (n : ℤ) → Decides (is_day n) (IsDay n)
@@ -72,9 +75,15 @@ civil_answer n (Some c) h =
     (day_so n c.year c.month c.day h , ap (λ (d : Date). d.year) e , ap (λ (d : Date). d.month) e , ap (λ (d : Date). d.day) e)
 civil_answer n None h = no_day n h
 
+moment_small : (n day : ℤ) (s : ℕ) → neg_ℤ (pos 4371587) ≤ℤ day → day ≤ℤ pos 2932896 → s < 86400 → n ≡ day *ℤ pos 86400 +ℤ pos s → unsigned_abs n < 2 ^ 50
+moment_small n day s low high l e = omega (arith, ints)
+
 pub split_answer : (n : ℤ) (r : Option (ℤ × ℕ)) → MatchOption r (IsMoment n → ⊥) (λ p. IsMomentOf n p.0 p.1)
-    → MatchOption r (is_moment n ≡ false) (λ p. (is_moment n ≡ true) × (day_part n ≡ p.0) × (second_part n ≡ p.1) × (p.1 < 86400))
-split_answer n (Some p) h = let e = part_is n p.0 p.1 h.1 h.2 in (moment_so n (p.0 , p.1 , h) , e.0 , e.1 , h.1)
+    → MatchOption r (is_moment n ≡ false) (λ p. (is_moment n ≡ true) × (day_part n ≡ p.0) × (second_part n ≡ p.1) × (p.1 < 86400) × (unsigned_abs n < 2 ^ 50))
+split_answer n (Some p) h =
+    let e = part_is n p.0 p.1 h.1 h.2 in
+    let r = day_range p.0 h.0 in
+    (moment_so n (p.0 , p.1 , h) , e.0 , e.1 , h.1 , moment_small n p.0 p.1 r.0 r.1 h.1 h.2)
 split_answer n None h = false_from_ne_true (is_moment n) (λ t. h (day_part n , second_part n , moment_is n t))
 
 -- ---- months

@@ -24,14 +24,14 @@ date_from zero y n = month_from 11 y 1 n
 date_from (suc k) y n = cond (nat_lt n (days_in_year (pos y))) (month_from 11 y 1 n) (date_from k (y + 1) (n - days_in_year (pos y)))
 
 -- the date of a day number: the days from 1 January of the year 1 on are counted
-abbrev pub date_at : ℤ → Date
+unfoldable pub date_at : ℤ → Date
 date_at n = date_from 9998 1 (unsigned_abs (n -ℤ days_from_civil (pos 1) 1 1))
 
 abbrev pub number_of : Date → ℤ
 number_of d = days_from_civil (pos d.year) d.month d.day
 
 -- a day of the years 1 to 9999
-abbrev pub is_day : ℤ → Bool
+unfoldable pub is_day : ℤ → Bool
 is_day n = is_civil (date_at n).year (date_at n).month (date_at n).day && int_eq n (number_of (date_at n))
 
 abbrev pub only_day : ℤ → Option ℤ

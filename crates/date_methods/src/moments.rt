@@ -1,6 +1,6 @@
 // Moments.
 
-ghost use Rattle.std.specs.Prelude.{◌≡◌, ◌<◌, true, false, pos, ◌+ℤ◌, ◌*ℤ◌, length, MatchOption};
+ghost use Rattle.std.specs.Prelude.{◌≡◌, ◌<◌, true, false, pos, ◌+ℤ◌, ◌*ℤ◌, length, unsigned_abs, ◌^◌, MatchOption};
 ghost use Rattle.date_methods.specs.Methods.{IsClock};
 ghost use Rattle.date_methods.specs.Values as spec;
 
@@ -32,7 +32,7 @@ pub fn clock_of(second_of_day: u32) -> Clock
 /// the years 1 to 9999.
 pub fn split(moment: i64) -> Option<(i32, u32)>
     ensures { MatchOption result (spec.is_moment moment ≡ false)
-        (λ p. (spec.is_moment moment ≡ true) × (spec.day_part moment ≡ p.0) × (spec.second_part moment ≡ p.1) × (p.1 < 86400)) }
+        (λ p. (spec.is_moment moment ≡ true) × (spec.day_part moment ≡ p.0) × (spec.second_part moment ≡ p.1) × (p.1 < 86400) × (unsigned_abs moment < 2 ^ 50)) }
 {
     split_moment(moment)
 }
