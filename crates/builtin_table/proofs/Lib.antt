@@ -1,2 +1,3 @@
 mod Facts
 mod Sizes
+mod Tables

@@ -9,13 +9,15 @@ mod exception;
 mod method;
 mod shown;
 mod size;
+mod table;
 mod values;
 
 pub use call::call_builtin;
 pub use exception::{BuiltinEnd, ExceptionClass};
 pub use shown::{text_length, text_of};
 pub use size::text_size;
+pub use table::{MethodRow, signature};
 pub use method::{
-    Builtin, DateMethod, DecimalMethod, MathMethod, MomentMethod, NullableMethod, ReadMethod,
-    TextAtMethod, TextMethod, TextsMethod,
+    Builtin, DateMethod, DecimalMethod, ListMethod, MapMethod, MathMethod, MomentMethod,
+    NullableMethod, PlatformMethod, ReadMethod, SetMethod, TextAtMethod, TextMethod, TextsMethod,
 };

@@ -123,6 +123,103 @@ pub enum MomentMethod {
     AddSeconds,
 }
 
+/// A method of a List. A position counts from 0.
+#[derive(Clone, Copy, Debug, PartialEq, Eq, Hash, Drop)]
+pub enum ListMethod {
+    Add,
+    /// `add(n, x)`.
+    Insert,
+    AddAll,
+    Get,
+    Set,
+    Remove,
+    Size,
+    IsEmpty,
+    Clear,
+    Clone,
+    Contains,
+    IndexOf,
+    Sort,
+}
+
+/// A method of a Set.
+#[derive(Clone, Copy, Debug, PartialEq, Eq, Hash, Drop)]
+pub enum SetMethod {
+    Add,
+    AddAll,
+    Remove,
+    RemoveAll,
+    RetainAll,
+    Contains,
+    ContainsAll,
+    Size,
+    IsEmpty,
+    Clear,
+    Clone,
+}
+
+/// A method of a Map.
+#[derive(Clone, Copy, Debug, PartialEq, Eq, Hash, Drop)]
+pub enum MapMethod {
+    Put,
+    Remove,
+    PutAll,
+    Get,
+    ContainsKey,
+    KeySet,
+    Values,
+    Size,
+    IsEmpty,
+    Clear,
+    Clone,
+}
+
+/// A method that asks the transaction, or one of an exception, a result, an error or a record.
+#[derive(Clone, Copy, Debug, PartialEq, Eq, Hash, Drop)]
+pub enum PlatformMethod {
+    /// `Date.today()`.
+    Today,
+    /// `Datetime.now()`.
+    Now,
+    /// `getMessage()` of an exception.
+    Message,
+    /// `getTypeName()`.
+    TypeName,
+    /// `isSuccess()` of a result.
+    IsSuccess,
+    /// `getId()` of a result.
+    ResultId,
+    /// `getErrors()` of a result.
+    Errors,
+    /// `getMessage()` of an error.
+    ErrorMessage,
+    /// `getStatusCode()` of an error.
+    StatusCode,
+    /// `addError(String)` of a record.
+    AddError,
+    Queries,
+    QueryRows,
+    DmlStatements,
+    DmlRows,
+    LimitQueries,
+    LimitQueryRows,
+    LimitDmlStatements,
+    LimitDmlRows,
+    UserId,
+    /// `Database.insert(x)`.
+    Insert,
+    /// `Database.insert(x, allOrNone)`.
+    InsertWith,
+    Update,
+    UpdateWith,
+    Delete,
+    DeleteWith,
+    Upsert,
+    UpsertWith,
+    SetSavepoint,
+    Rollback,
+}
+
 /// A method of the platform, found once by its type, its name and the number of its arguments.
 #[derive(Clone, Copy, Debug, PartialEq, Eq, Hash, Drop)]
 pub enum Builtin {
@@ -155,4 +252,10 @@ pub enum Builtin {
     Moment(MomentMethod),
     /// `Datetime.newInstanceGmt(y, m, d, h, mi, s)`.
     NewMoment,
+    /// `String.join(list, t)`.
+    Join,
+    List(ListMethod),
+    Set(SetMethod),
+    Map(MapMethod),
+    Platform(PlatformMethod),
 }
