@@ -1,5 +1,5 @@
 -- Ids that texts are, and texts of Decimals.
-use Rattle.std.proofs.Common.{arith, ◌≡◌, ◌≤◌, ◌<◌, ◌+◌, ◌&&◌, ◌||◌, ◌⊎◌, inl, inr, ⊎_elim, ℕ, ℤ, pos, Bool, true, false, cond, eqb, leb, List, [], ◌∷◌, ◌++◌, length, take, drop, codes, nat_lt, ltb-true, slice_index_or, All, Option, Some, None, MatchOption, Result, refl, sym, ap, ap₂, ◌∙◌, subst, le-leb, leb-true, eq-eqb, eqb-true, length-append}
+use Rattle.std.proofs.Common.{arith, ◌≡◌, ◌≤◌, ◌<◌, ◌&&◌, inl, inr, ℕ, ℤ, Bool, true, false, cond, leb, List, [], ◌∷◌, length, take, drop, codes, nat_lt, ltb-true, slice_index_or, All, Option, Some, None, MatchOption, refl, sym, ap, ◌∙◌, subst, le-leb, leb-true, length-append}
 use Rattle.std.specs.Bool.{Decides}
 use Rattle.std.specs.Str.{IsUtf8, IsAscii, bytes_eq}
 use Rattle.std.specs.Char.{digit_value}
@@ -12,11 +12,11 @@ use Rattle.std.proofs.lemmas.Str.{IsUtf8-from_ascii, IsAscii-append}
 use Rattle.std.proofs.lemmas.Str.Ascii.{IsAscii-nil, IsAscii-cons, IsAscii-from_all}
 use Rattle.std.proofs.Math.Seq.{take-append_seam}
 use Rattle.apex_num.specs.Ids.{IsAlphanumeric, IsId, Names, long_id, checks, check, capitals}
-use Rattle.apex_num.specs.Decimals.{Spells, IsSize, IsPart, sign, after_dot, dec_text}
+use Rattle.apex_num.specs.Decimals.{Spells, sign, after_dot}
 use Rattle.builtin_table.specs.Meanings.{is_alphanumeric, is_id, id_value}
 
 leb_decide : (a b : ℕ) → Decides (leb a b) (a ≤ b)
-leb_decide a b = (leb-true a b , le-leb a b)
+leb_decide a b = (leb-true a b, le-leb a b)
 
 alphanumeric_decide : (c : ℕ) → Decides (is_alphanumeric c) (IsAlphanumeric c)
 alphanumeric_decide c =
@@ -29,22 +29,22 @@ id_decide : (bs : List ℕ) → Decides (is_id bs) (IsId bs)
 id_decide bs = Decides-and _ _ (Decides-eqb (length bs) 15) (all_decide bs)
 
 found : (bs id : List ℕ) → Names bs id → Some id ≡ id_value bs
-found bs id (is , inl e) = sym (ap id_value e ∙ ap (λ b. cond b (Some id) (cond (is_id (take 15 id) && bytes_eq id (long_id (take 15 id))) (Some (take 15 id)) None)) ((id_decide id).1 is))
-found bs id (is , inr e) =
+found bs id (is, inl e) = sym (ap id_value e ∙ ap (λ b. cond b (Some id) (cond (is_id (take 15 id) && bytes_eq id (long_id (take 15 id))) (Some (take 15 id)) None)) ((id_decide id).1 is))
+found bs id (is, inr e) =
     let l = ap length e in
     let a = length-append id (checks id) in
     let k = is.0 in
     let long : is_id bs ≡ false = false_from_ne_true (is_id bs) (λ t. let s = ((id_decide bs).0 t).0 in absurd (omega arith)) in
     let front : take 15 bs ≡ id = ap (take 15) e ∙ ap (λ n. take n (long_id id)) (sym k) ∙ take-append_seam id (checks id) in
     let same : (is_id (take 15 bs) && bytes_eq bs (long_id (take 15 bs))) ≡ true =
-      (Decides-and _ _ (id_decide (take 15 bs)) (bytes_eq-Decides bs (long_id (take 15 bs)))).1 (subst IsId (sym front) is , e ∙ ap long_id (sym front)) in
+    (Decides-and _ _ (id_decide (take 15 bs)) (bytes_eq-Decides bs (long_id (take 15 bs)))).1 (subst IsId (sym front) is, e ∙ ap long_id (sym front)) in
     sym (ap (λ b. cond b (Some bs) (cond (is_id (take 15 bs) && bytes_eq bs (long_id (take 15 bs))) (Some (take 15 bs)) None)) long ∙ ap (λ b. cond b (Some (take 15 bs)) None) same ∙ ap Some front)
 
 nothing : (bs : List ℕ) → ((id : List ℕ) → Names bs id → ⊥) → None ≡ id_value bs
 nothing bs h =
-    let short : is_id bs ≡ false = false_from_ne_true (is_id bs) (λ t. h bs ((id_decide bs).0 t , inl refl)) in
+    let short : is_id bs ≡ false = false_from_ne_true (is_id bs) (λ t. h bs ((id_decide bs).0 t, inl refl)) in
     let long : (is_id (take 15 bs) && bytes_eq bs (long_id (take 15 bs))) ≡ false =
-      false_from_ne_true _ (λ t. let p = (Decides-and _ _ (id_decide (take 15 bs)) (bytes_eq-Decides bs (long_id (take 15 bs)))).0 t in h (take 15 bs) (p.0 , inr p.1)) in
+    false_from_ne_true _ (λ t. let p = (Decides-and _ _ (id_decide (take 15 bs)) (bytes_eq-Decides bs (long_id (take 15 bs)))).0 t in h (take 15 bs) (p.0, inr p.1)) in
     sym (ap (λ b. cond b (Some bs) (cond (is_id (take 15 bs) && bytes_eq bs (long_id (take 15 bs))) (Some (take 15 bs)) None)) short ∙ ap (λ b. cond b (Some (take 15 bs)) None) long)
 
 pub id_answer : (bs : List ℕ) (r : Option (List ℕ)) → MatchOption r ((id : List ℕ) → Names bs id → ⊥) (λ id. Names bs id) → r ≡ id_value bs

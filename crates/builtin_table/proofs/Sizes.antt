@@ -1,5 +1,5 @@
 -- The sizes of the texts that methods answer, and that the other methods answer none.
-use Rattle.std.proofs.Common.{arith, ◌≡◌, ◌<◌, ◌+◌, ◌^◌, ◌-◌, min, ℕ, zero, suc, ℤ, pos, negsuc, Bool, true, false, cond, List, [], ◌∷◌, ◌++◌, take, drop, length, reverse, Option, Some, None, Result, Ok, Err, refl, sym, ap, ◌∙◌, length-append}
+use Rattle.std.proofs.Common.{arith, ◌≡◌, ◌<◌, ◌^◌, ◌-◌, min, ℕ, zero, suc, ℤ, pos, negsuc, Bool, true, false, cond, List, [], ◌∷◌, take, drop, length, reverse, Option, Some, None, Result, Ok, Err, refl, ap, ◌∙◌, length-append}
 use Rattle.std.specs.Str.{IsUtf8, chars, encode_utf8_all}
 use Rattle.std.specs.Char.{encode_utf8, len_utf8, to_ascii_uppercase, to_ascii_lowercase}
 use Rattle.std.proofs.lemmas.Str.{encodes-append, encodes-chars, length-encode}
@@ -11,10 +11,8 @@ use Rattle.number_methods.specs.Values.{whole_value, decimal_value, without_l, o
 use Rattle.number_methods.specs.Methods.{whole_of}
 use Rattle.date_values.specs.Values.{date_value}
 use Rattle.date_methods.specs.Values as dates
-use Rattle.builtin_table.specs.Answers.{Answer, Gives, Throws, sized, invalid_number, invalid_id, invalid_date, out_of_range}
+use Rattle.builtin_table.specs.Answers.{Answer, sized, invalid_number, invalid_id, invalid_date, out_of_range}
 use Rattle.builtin_table.specs.Meanings as spec
-use Rattle.builtin_table.specs.declared.method.TextMethod.{TextMethod}
-use Rattle.builtin_table.specs.declared.method.TextMethod.TheVariants as T
 use Rattle.builtin_table.specs.declared.method.ReadMethod.{ReadMethod}
 use Rattle.builtin_table.specs.declared.method.ReadMethod.TheVariants as R
 use Rattle.builtin_table.specs.declared.method.MathMethod.{MathMethod}

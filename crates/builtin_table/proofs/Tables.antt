@@ -1,5 +1,5 @@
 -- What a search in a table of methods finds.
-use Rattle.std.proofs.Common.{arith, ◌≡◌, ◌+◌, ◌<◌, ◌≤◌, ◌&&◌, ℕ, zero, suc, Bool, true, false, cond, List, [], ◌∷◌, ◌++◌, length, map, bytes_eq, is_lt, leb, leb-true, Option, Some, None, Ordering, IfSome, IfNone, MatchOption, refl, sym, ap, subst, ◌∙◌, option_map, option_copied}
+use Rattle.std.proofs.Common.{arith, ◌≡◌, ◌+◌, ◌<◌, ◌&&◌, ℕ, zero, suc, Bool, true, false, cond, List, [], ◌∷◌, ◌++◌, length, map, bytes_eq, is_lt, leb, leb-true, Option, Some, None, Ordering, IfSome, IfNone, MatchOption, refl, sym, ap, subst, ◌∙◌, option_copied}
 use Rattle.std.specs.Prelude.{slice_index_or}
 use Rattle.std.specs.Borrow.{Bor}
 use Rattle.std.specs.declared.cmp.Ordering.TheVariants.{Less, Equal, Greater}
@@ -44,7 +44,7 @@ Told rows k (Some f) = (row : MethodRow) × HasKey key rows k row × (forms row 
 Told rows k None = LacksKey key rows k
 
 later : (r : MethodRow) (rs : List MethodRow) (k : List ℕ) (o : Option Forms) → (key r ≡ k → ⊥) → Told rs k o → Told (r ∷ rs) k o
-later r rs k (Some f) other t = let h = t.1 in (t.0 , (h.0 , (suc h.1.0 , (let l = h.1.1 in omega arith) , h.1.2)) , t.2)
+later r rs k (Some f) other t = let h = t.1 in (t.0, (h.0, (suc h.1.0, (let l = h.1.1 in omega arith), h.1.2)), t.2)
 later r rs k None other t = λ i d. by i d
   where
     by : (i : ℕ) (d : MethodRow) → i < length (r ∷ rs) → key (slice_index_or (r ∷ rs) i d) ≡ k → ⊥
@@ -56,7 +56,7 @@ told [] k = λ i d lt. absurd (omega arith)
 told (r ∷ rs) k = by (bytes_eq (key r) k) refl (told rs k)
   where
     by : (b : Bool) → bytes_eq (key r) k ≡ b → Told rs k (found (map forms rs) k) → Told (r ∷ rs) k (cond b (Some (forms r)) (found (map forms rs) k))
-    by true e t = (r , ((bytes_eq-Decides (key r) k).0 e , (0 , omega arith , λ d. refl)) , refl)
+    by true e t = (r, ((bytes_eq-Decides (key r) k).0 e, (0, omega arith, λ d. refl)), refl)
     by false e t = later r rs k (found (map forms rs) k) (λ same. let u = (bytes_eq-Decides (key r) k).1 same in absurd (cc)) t
 
 same : (rows : List MethodRow) (k : List ℕ) (o : Option Forms) (row : MethodRow) → Told rows k o → HasKey key rows k row → ((other : MethodRow) → HasKey key rows k other → other ≡ row) → o ≡ Some (forms row)

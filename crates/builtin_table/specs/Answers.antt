@@ -1,5 +1,5 @@
 -- Answers of methods, and the exceptions that they throw (docs/language.md, "Built-in methods").
-use Rattle.std.specs.Prelude.{◌≡◌, ℕ, List, [], ◌∷◌, ◌++◌, length, codes, min, ◌^◌, ◌-◌, Option, None, Some, Result, Ok, Err, ⊤}
+use Rattle.std.specs.Prelude.{◌≡◌, ℕ, List, ◌++◌, length, codes, min, ◌^◌, ◌-◌, Option, None, Some, Result, Ok, Err, ⊤}
 use Rattle.apex_num.specs.declared.cell.Cell.{Cell}
 use Rattle.apex_num.specs.declared.cell.Cell.TheVariants as Cells
 use Rattle.builtin_table.specs.declared.exception.ExceptionClass.{ExceptionClass}

@@ -1,6 +1,6 @@
 -- What each method answers (docs/language.md, "Built-in methods"). The first of the arguments is the receiver, where there
 -- is one.
-use Rattle.std.specs.Prelude.{ℕ, zero, ◌+◌, ◌-◌, ◌*◌, ◌/◌, ◌%◌, ◌^◌, ◌&&◌, ◌||◌, not, nat_lt, nat_le, eqb, cond, Bool, true, false, List, [], ◌∷◌, ◌++◌, length, take, drop, map, reverse, chars, encode_utf8_all, bytes_eq, ℤ, pos, negsuc, ◌+ℤ◌, ◌-ℤ◌, ◌*ℤ◌, unsigned_abs, int_rem, int_lt, Option, None, Some, Result, Ok, Err, is_some}
+use Rattle.std.specs.Prelude.{ℕ, zero, ◌/◌, ◌%◌, ◌^◌, ◌&&◌, ◌||◌, not, nat_lt, nat_le, eqb, cond, Bool, true, false, List, [], ◌∷◌, length, take, drop, map, reverse, chars, encode_utf8_all, bytes_eq, ℤ, pos, negsuc, ◌+ℤ◌, ◌-ℤ◌, ◌*ℤ◌, unsigned_abs, int_rem, Option, None, Some, Result, Ok, Err, is_some}
 use Rattle.std.specs.List.{list_all, list_any}
 use Rattle.std.specs.Char.{to_ascii_uppercase, to_ascii_lowercase}
 use Rattle.std.specs.Str.{str_eq_ignore_ascii_case}
@@ -19,7 +19,7 @@ use Rattle.number_methods.specs.Values.{whole_value, decimal_value, without_l, o
 use Rattle.date_values.specs.Values.{date_value}
 use Rattle.date_methods.specs.Values as dates
 use Rattle.text_methods.specs.Texts as texts
-use Rattle.builtin_table.specs.Answers.{Answer, Gives, Throws, divide_by_zero, out_of_range, null_object, out_of_bounds, invalid_id, invalid_number, invalid_date, invalid_conversion}
+use Rattle.builtin_table.specs.Answers.{Answer, Gives, divide_by_zero, out_of_range, null_object, out_of_bounds, invalid_id, invalid_number, invalid_date, invalid_conversion}
 use Rattle.builtin_table.specs.Shown.{shown}
 use Rattle.builtin_table.specs.declared.method.TextMethod.{TextMethod}
 use Rattle.builtin_table.specs.declared.method.TextMethod.TheVariants as T
@@ -307,27 +307,27 @@ one_text (Cells.Text s ∷ []) = Some s
 one_text _ = None
 
 abbrev pub two_texts : List Cell → Option (List ℕ × List ℕ)
-two_texts (Cells.Text s ∷ (Cells.Text t ∷ [])) = Some (s , t)
+two_texts (Cells.Text s ∷ (Cells.Text t ∷ [])) = Some (s, t)
 two_texts _ = None
 
 abbrev pub three_texts : List Cell → Option (List ℕ × List ℕ × List ℕ)
-three_texts (Cells.Text s ∷ (Cells.Text t ∷ (Cells.Text u ∷ []))) = Some (s , t , u)
+three_texts (Cells.Text s ∷ (Cells.Text t ∷ (Cells.Text u ∷ []))) = Some (s, t, u)
 three_texts _ = None
 
 abbrev pub text_and_whole : List Cell → Option (List ℕ × ℤ)
-text_and_whole (Cells.Text s ∷ (Cells.Whole n ∷ [])) = Some (s , n)
+text_and_whole (Cells.Text s ∷ (Cells.Whole n ∷ [])) = Some (s, n)
 text_and_whole _ = None
 
 abbrev pub text_and_wholes : List Cell → Option (List ℕ × ℤ × ℤ)
-text_and_wholes (Cells.Text s ∷ (Cells.Whole n ∷ (Cells.Whole m ∷ []))) = Some (s , n , m)
+text_and_wholes (Cells.Text s ∷ (Cells.Whole n ∷ (Cells.Whole m ∷ []))) = Some (s, n, m)
 text_and_wholes _ = None
 
 abbrev pub texts_and_whole : List Cell → Option (List ℕ × List ℕ × ℤ)
-texts_and_whole (Cells.Text s ∷ (Cells.Text t ∷ (Cells.Whole n ∷ []))) = Some (s , t , n)
+texts_and_whole (Cells.Text s ∷ (Cells.Text t ∷ (Cells.Whole n ∷ []))) = Some (s, t, n)
 texts_and_whole _ = None
 
 abbrev pub decimal_and_whole : List Cell → Option (ℤ × ℤ)
-decimal_and_whole (Cells.Num c ∷ (Cells.Whole n ∷ [])) = Some (c , n)
+decimal_and_whole (Cells.Num c ∷ (Cells.Whole n ∷ [])) = Some (c, n)
 decimal_and_whole _ = None
 
 abbrev pub one_whole : List Cell → Option ℤ
@@ -335,11 +335,11 @@ one_whole (Cells.Whole n ∷ []) = Some n
 one_whole _ = None
 
 abbrev pub two_wholes : List Cell → Option (ℤ × ℤ)
-two_wholes (Cells.Whole a ∷ (Cells.Whole b ∷ [])) = Some (a , b)
+two_wholes (Cells.Whole a ∷ (Cells.Whole b ∷ [])) = Some (a, b)
 two_wholes _ = None
 
 abbrev pub three_wholes : List Cell → Option (ℤ × ℤ × ℤ)
-three_wholes (Cells.Whole a ∷ (Cells.Whole b ∷ (Cells.Whole c ∷ []))) = Some (a , b , c)
+three_wholes (Cells.Whole a ∷ (Cells.Whole b ∷ (Cells.Whole c ∷ []))) = Some (a, b, c)
 three_wholes _ = None
 
 -- `intValue` of a Long: what 32 bits hold of it

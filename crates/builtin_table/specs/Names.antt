@@ -35,7 +35,7 @@ abbrev pub one : List ℕ → ℕ → Builtin → Forms
 one key n which = record { key = key; count = n; builtin = which; more = None }
 
 abbrev pub two : List ℕ → ℕ → Builtin → ℕ → Builtin → Forms
-two key n which m another = record { key = key; count = n; builtin = which; more = Some (m , another) }
+two key n which m another = record { key = key; count = n; builtin = which; more = Some (m, another) }
 
 -- the table, each part in the order of its keys
 unfoldable pub text_methods : List Forms

@@ -222,11 +222,7 @@ fn three_wholes(args: &[Cell]) -> Option<(i64, i64, i64)>
     }
 }
 
-fn moment_of(
-    alloc: Global,
-    date: Option<(i64, i64, i64)>,
-    time: Option<(i64, i64, i64)>,
-) -> Call
+fn moment_of(alloc: Global, date: Option<(i64, i64, i64)>, time: Option<(i64, i64, i64)>) -> Call
     ensures { Answers (spec.new_moment_meaning date time) result }
 {
     match (date, time) {

@@ -53,12 +53,7 @@ fn id(alloc: Global, text: &str) -> Call
 {
     match id_of(text.as_bytes()) {
         Some(id) => Ok(Cell::Id(id)),
-        None => Err(thrown_with(
-            alloc,
-            ExceptionClass::String,
-            "Invalid id: ",
-            text,
-        )),
+        None => Err(thrown_with(alloc, ExceptionClass::String, "Invalid id: ", text)),
     }
 }
 
@@ -175,13 +170,21 @@ pub(crate) fn wholes_math(alloc: Global, method: MathMethod, x: i64, y: i64) -> 
 fn greater(x: Dec, y: Dec) -> Dec
     ensures { result ≡ int_max x y }
 {
-    if y.millionths() < x.millionths() { x } else { y }
+    if y.millionths() < x.millionths() {
+        x
+    } else {
+        y
+    }
 }
 
 fn smaller(x: Dec, y: Dec) -> Dec
     ensures { result ≡ int_min x y }
 {
-    if y.millionths() < x.millionths() { y } else { x }
+    if y.millionths() < x.millionths() {
+        y
+    } else {
+        x
+    }
 }
 
 /// A method of Math of two Decimals.

@@ -82,7 +82,12 @@ fn joined(alloc: Global, front: &str, text: &str) -> Result<Text, AllocError>
 }
 
 /// An exception whose message is these two texts.
-pub(crate) fn thrown_with(alloc: Global, class: ExceptionClass, front: &str, text: &str) -> BuiltinEnd
+pub(crate) fn thrown_with(
+    alloc: Global,
+    class: ExceptionClass,
+    front: &str,
+    text: &str,
+) -> BuiltinEnd
     ensures { Fails (Throws class (front.now ++ text.now)) result }
 {
     match joined(alloc, front, text) {

@@ -7,17 +7,19 @@ mod call_number;
 mod call_text;
 mod exception;
 mod method;
+mod platform_rows;
 mod shown;
 mod size;
 mod table;
+mod value_rows;
 mod values;
 
 pub use call::call_builtin;
 pub use exception::{BuiltinEnd, ExceptionClass};
-pub use shown::{text_length, text_of};
-pub use size::text_size;
-pub use table::{MethodRow, signature};
 pub use method::{
     Builtin, DateMethod, DecimalMethod, ListMethod, MapMethod, MathMethod, MomentMethod,
     NullableMethod, PlatformMethod, ReadMethod, SetMethod, TextAtMethod, TextMethod, TextsMethod,
 };
+pub use shown::{text_length, text_of};
+pub use size::text_size;
+pub use table::{MethodRow, signature};

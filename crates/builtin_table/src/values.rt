@@ -48,11 +48,7 @@ pub(crate) fn part(alloc: Global, cut: Option<&str>) -> Call
 {
     match cut {
         Some(text) => copied(alloc, text),
-        None => Err(thrown(
-            alloc,
-            ExceptionClass::String,
-            "Position out of bounds",
-        )),
+        None => Err(thrown(alloc, ExceptionClass::String, "Position out of bounds")),
     }
 }
 

@@ -1,9 +1,9 @@
 -- The search for a date finds it.
-use Rattle.std.proofs.Common.{arith, ◌≡◌, ◌<◌, ◌≤◌, ◌+◌, ◌-◌, ◌*◌, zero, suc, ℕ, Bool, true, false, cond, ◌&&◌, nat_lt, ℤ, pos, ◌+ℤ◌, ◌-ℤ◌, unsigned_abs, refl, sym, ap, ap₂, ◌∙◌, lt-ltb, le-ltb, ltb-false, eq-or-lt_of_le, inl, inr, ◌⊎◌}
+use Rattle.std.proofs.Common.{arith, ◌≡◌, ◌<◌, ◌≤◌, ◌+◌, ◌-◌, zero, suc, ℕ, Bool, true, false, ℤ, pos, ◌+ℤ◌, ◌-ℤ◌, unsigned_abs, refl, sym, ap, ap₂, ◌∙◌, lt-ltb, le-ltb, eq-or-lt_of_le, inl, inr, ◌⊎◌}
 use Rattle.std.proofs.lemmas.Int.{ints}
-use Rattle.jiff_core.specs.Calendar.{days_from_civil, day_count, day_of_year, days_of_years, days_of_months, days_in_month, days_in_year, is_leap_year}
-use Rattle.civil_days.specs.Days.{IsCivil, IsDateOf}
-use Rattle.date_methods.specs.Values.{Date, month_from, date_from, date_at}
+use Rattle.jiff_core.specs.Calendar.{days_from_civil, day_count, days_of_years, days_of_months, days_in_month, days_in_year, is_leap_year}
+use Rattle.civil_days.specs.Days.{IsDateOf}
+use Rattle.date_methods.specs.Values.{month_from, date_from, date_at}
 
 -- ---- years
 
@@ -80,7 +80,7 @@ month_found (suc k) y i month rest n e lt from to = by (eq-or-lt_of_le from) (mo
   where
     by : (i ≡ month) ⊎ (i < month)
         → (days_of_months (pos y) (i + 1) + (n - days_in_month (pos y) (i + 1)) ≡ days_of_months (pos y) month + rest → rest < days_in_month (pos y) (month + 1) → i + 1 ≤ month → month ≤ i + 1 + k
-          → month_from k y (i + 1 + 1) (n - days_in_month (pos y) (i + 1)) ≡ record { year = y; month = month + 1; day = rest + 1 })
+        → month_from k y (i + 1 + 1) (n - days_in_month (pos y) (i + 1)) ≡ record { year = y; month = month + 1; day = rest + 1 })
         → month_from (suc k) y (i + 1) n ≡ record { year = y; month = month + 1; day = rest + 1 }
     by (inl same) ih =
         let q = ap (λ x. days_of_months (pos y) x) same in

@@ -12,11 +12,11 @@ use Rattle.civil_days.proofs.Dates.{day_range}
 use Rattle.civil_days.specs.declared.Civil.{Civil}
 use Rattle.civil_days.specs.Days.{IsCivil, IsDateOf, IsDay, IsMonthsLater, IsMoment, IsMomentOf}
 use Rattle.date_values.specs.Values.{is_civil}
-use Rattle.date_methods.specs.Values.{Date, date_at, number_of, is_day, only_day, new_day, start_of_month, in_month, months_later, is_moment, only_moment, day_part, second_part, cut_to, is_clock, clock_seconds, on_day}
+use Rattle.date_methods.specs.Values.{Date, date_at, number_of, is_day, only_day, start_of_month, in_month, months_later, is_moment, only_moment, day_part, second_part, cut_to, is_clock, clock_seconds, on_day}
 use Rattle.date_methods.proofs.Search.{date_at_is}
 
 Decides-leb : (a b : ℕ) → Decides (leb a b) (a ≤ b)
-Decides-leb a b = (leb-true a b , le-leb a b)
+Decides-leb a b = (leb-true a b, le-leb a b)
 
 pub civil_decide : (y m d : ℕ) → Decides (is_civil y m d) (IsCivil y m d)
 civil_decide y m d =
@@ -29,14 +29,14 @@ civil_and n d = Decides-and _ _ (civil_decide d.year d.month d.day) (Decides-int
 pub day_so : (n : ℤ) (y m d : ℕ) → IsDateOf n y m d → is_day n ≡ true
 unfolding is_day
 day_so n y m d h =
-    subst (λ (at : Date). (is_civil at.year at.month at.day && int_eq n (number_of at)) ≡ true) (sym (date_at_is n y m d h)) ((civil_and n (record { year = y; month = m; day = d })).1 (h.0 , h.1))
+    subst (λ (at : Date). (is_civil at.year at.month at.day && int_eq n (number_of at)) ≡ true) (sym (date_at_is n y m d h)) ((civil_and n (record { year = y; month = m; day = d })).1 (h.0, h.1))
 
 pub day_is : (n : ℤ) → is_day n ≡ true → IsDateOf n (date_at n).year (date_at n).month (date_at n).day
 unfolding is_day
-day_is n t = let h = (civil_and n (date_at n)).0 t in (h.0 , h.1)
+day_is n t = let h = (civil_and n (date_at n)).0 t in (h.0, h.1)
 
 pub day_decide : (n : ℤ) → Decides (is_day n) (IsDay n)
-day_decide n = (λ t. ((date_at n).year , (date_at n).month , (date_at n).day , day_is n t) , λ h. day_so n h.0 h.1 h.2 h.3)
+day_decide n = (λ t. ((date_at n).year, (date_at n).month, (date_at n).day, day_is n t), λ h. day_so n h.0 h.1 h.2 h.3)
 
 pub no_day : (n : ℤ) → (IsDay n → ⊥) → is_day n ≡ false
 no_day n h = false_from_ne_true (is_day n) (λ t. h ((day_decide n).0 t))
@@ -53,18 +53,18 @@ far_day n h = sym (ap (λ b. cond b (Some n) None) (no_day n (λ d. h (day_range
 -- ---- moments
 
 part_is : (n day : ℤ) (s : ℕ) → s < 86400 → n ≡ day *ℤ pos 86400 +ℤ pos s → (day_part n ≡ day) × (second_part n ≡ s)
-part_is (pos a) day s l e = (omega (arith, signed_arith) , omega (arith, signed_arith))
-part_is (negsuc a) day s l e = (omega (arith, signed_arith) , omega (arith, signed_arith))
+part_is (pos a) day s l e = (omega (arith, signed_arith), omega (arith, signed_arith))
+part_is (negsuc a) day s l e = (omega (arith, signed_arith), omega (arith, signed_arith))
 
 parts : (n : ℤ) → (second_part n < 86400) × (n ≡ day_part n *ℤ pos 86400 +ℤ pos (second_part n))
-parts (pos a) = (omega (arith, signed_arith) , omega (arith, signed_arith))
-parts (negsuc a) = (omega (arith, signed_arith) , omega (arith, signed_arith))
+parts (pos a) = (omega (arith, signed_arith), omega (arith, signed_arith))
+parts (negsuc a) = (omega (arith, signed_arith), omega (arith, signed_arith))
 
 pub moment_so : (n : ℤ) → IsMoment n → is_moment n ≡ true
 moment_so n h = let p = part_is n h.0 h.1 h.2.1 h.2.2 in ap is_day p.0 ∙ (day_decide h.0).1 h.2.0
 
 pub moment_is : (n : ℤ) → is_moment n ≡ true → IsMomentOf n (day_part n) (second_part n)
-moment_is n t = ((day_decide (day_part n)).0 t , (parts n).0 , (parts n).1)
+moment_is n t = ((day_decide (day_part n)).0 t, (parts n).0, (parts n).1)
 
 -- ---- what calls answer
 
@@ -72,7 +72,7 @@ pub civil_answer : (n : ℤ) (r : Option Civil) → MatchOption r (IsDay n → �
     → MatchOption r (is_day n ≡ false) (λ c. (is_day n ≡ true) × ((date_at n).year ≡ c.year) × ((date_at n).month ≡ c.month) × ((date_at n).day ≡ c.day))
 civil_answer n (Some c) h =
     let e = date_at_is n c.year c.month c.day h in
-    (day_so n c.year c.month c.day h , ap (λ (d : Date). d.year) e , ap (λ (d : Date). d.month) e , ap (λ (d : Date). d.day) e)
+    (day_so n c.year c.month c.day h, ap (λ (d : Date). d.year) e, ap (λ (d : Date). d.month) e, ap (λ (d : Date). d.day) e)
 civil_answer n None h = no_day n h
 
 moment_small : (n day : ℤ) (s : ℕ) → neg_ℤ (pos 4371587) ≤ℤ day → day ≤ℤ pos 2932896 → s < 86400 → n ≡ day *ℤ pos 86400 +ℤ pos s → unsigned_abs n < 2 ^ 50
@@ -83,8 +83,8 @@ pub split_answer : (n : ℤ) (r : Option (ℤ × ℕ)) → MatchOption r (IsMome
 split_answer n (Some p) h =
     let e = part_is n p.0 p.1 h.1 h.2 in
     let r = day_range p.0 h.0 in
-    (moment_so n (p.0 , p.1 , h) , e.0 , e.1 , h.1 , moment_small n p.0 p.1 r.0 r.1 h.1 h.2)
-split_answer n None h = false_from_ne_true (is_moment n) (λ t. h (day_part n , second_part n , moment_is n t))
+    (moment_so n (p.0, p.1, h), e.0, e.1, h.1, moment_small n p.0 p.1 r.0 r.1 h.1 h.2)
+split_answer n None h = false_from_ne_true (is_moment n) (λ t. h (day_part n, second_part n, moment_is n t))
 
 -- ---- months
 
@@ -119,15 +119,15 @@ months_answer months n (Some l) h =
     let y : t / 12 ≡ h.year₂ = omega arith in
     let m : t % 12 + 1 ≡ h.month₂ = omega arith in
     sym (months_at months n h.year h.month h.day h.from ∙ ap (λ z. in_month z h.day) e ∙ in_range t h.day (omega arith) (omega arith)
-      ∙ ap₂ (λ x z. Some (cut_to x z h.day)) y m ∙ ap Some (sym h.to.1))
+    ∙ ap₂ (λ x z. Some (cut_to x z h.day)) y m ∙ ap Some (sym h.to.1))
 months_answer months n None h = by (is_day n) refl
   where
     by : (b : Bool) → is_day n ≡ b → None ≡ months_later months n
     by false e = sym (no_months months n (λ d. let t = (day_decide n).1 d in absurd (cc)))
     by true e =
-      let date = date_at n in
-      let from = day_is n e in
-      sym (months_at months n date.year date.month date.day from ∙ out_of_range (pos (date.year * 12 + date.month) -ℤ pos 1 +ℤ months) date.day (λ k is low high.
+        let date = date_at n in
+        let from = day_is n e in
+        sym (months_at months n date.year date.month date.day from ∙ out_of_range (pos (date.year * 12 + date.month) -ℤ pos 1 +ℤ months) date.day (λ k is low high.
         let y : k / 12 * 12 + (k % 12 + 1) ≡ k + 1 = omega arith in
         let long = month_long (pos (k / 12)) (k % 12 + 1) in
         let some = from.0.4 in
@@ -137,9 +137,14 @@ months_answer months n None h = by (is_day n) refl
         let month_high : k % 12 + 1 ≤ 12 = omega arith in
         h (cut_to (k / 12) (k % 12 + 1) date.day)
         (record {
-          year = date.year; month = date.month; day = date.day; from = from; year₂ = k / 12; month₂ = k % 12 + 1;
-          after = (year_low , year_high , month_low , month_high , omega (arith, signed_arith));
-          to = ((year_low , year_high , month_low , month_high , omega arith , omega arith) , refl)
+          year = date.year;
+          month = date.month;
+          day = date.day;
+          from = from;
+          year₂ = k / 12;
+          month₂ = k % 12 + 1;
+          after = (year_low, year_high, month_low, month_high, omega (arith, signed_arith));
+          to = ((year_low, year_high, month_low, month_high, omega arith, omega arith), refl);
         })))
 
 -- so many months that no 32 bits hold them lead nowhere
@@ -149,10 +154,10 @@ far_months months n h = by (is_day n) refl
     by : (b : Bool) → is_day n ≡ b → None ≡ months_later months n
     by false e = sym (no_months months n (λ d. let t = (day_decide n).1 d in absurd (cc)))
     by true e =
-      let date = date_at n in
-      let from = day_is n e in
-      let a = from.0.1 in let b = from.0.3 in
-      sym (months_at months n date.year date.month date.day from ∙ out_of_range (pos (date.year * 12 + date.month) -ℤ pos 1 +ℤ months) date.day (λ k is low high. h (omega (arith, signed_arith))))
+        let date = date_at n in
+        let from = day_is n e in
+        let a = from.0.1 in let b = from.0.3 in
+        sym (months_at months n date.year date.month date.day from ∙ out_of_range (pos (date.year * 12 + date.month) -ℤ pos 1 +ℤ months) date.day (λ k is low high. h (omega (arith, signed_arith))))
 
 -- ---- values that are there
 
@@ -184,7 +189,7 @@ start_else n h = sym (ap (λ b. cond b (Some (days_from_civil (pos (date_at n).y
 
 pub day_made : (r : Option ℤ) (n : ℤ) (y m d : ℕ) → IsDateOf n y m d → MatchOption r (IsCivil y m 1 → ⊥) (λ k. IsDateOf k y m 1) → r ≡ Some (days_from_civil (pos y) m 1)
 day_made (Some k) n y m d h is = ap Some is.1
-day_made None n y m d h no' = let c = h.0 in absurd (no' (c.0 , c.1 , c.2 , c.3 , le_refl 1 , month_long (pos y) m))
+day_made None n y m d h no' = let c = h.0 in absurd (no' (c.0, c.1, c.2, c.3, le_refl 1, month_long (pos y) m))
 
 pub moment_made : (o : Option ℤ) (h m s day z : ℤ) (n : ℕ) → is_clock h m s ≡ true → pos n ≡ clock_seconds h m s → o ≡ Some day → z ≡ day *ℤ pos 86400 +ℤ pos n
     → Some z ≡ cond (is_clock h m s) (on_day o (clock_seconds h m s)) None

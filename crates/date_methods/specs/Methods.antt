@@ -1,5 +1,5 @@
 -- What the methods of Date and Datetime answer (docs/language.md, "Methods of dates").
-use Rattle.std.specs.Prelude.{◌≡◌, ℕ, ◌<◌, ◌+◌, ◌*◌, ℤ, pos}
+use Rattle.std.specs.Prelude.{◌≡◌, ℕ, ℤ, pos}
 use Rattle.civil_days.specs.Days.{IsCivil, IsDateOf}
 
 -- three Integers are a date of the years 1 to 9999
@@ -12,7 +12,3 @@ pub record AreDate (year month day : ℤ) (y m d : ℕ) : Type 0 where
 -- the first day of the month in which a day lies
 abbrev pub IsMonthStart : ℤ → ℤ → Type 0
 IsMonthStart day start = (y : ℕ) × (m : ℕ) × (d : ℕ) × IsDateOf day y m d × IsDateOf start y m 1
-
--- so many seconds are this time of the day
-abbrev pub IsClock : ℕ → ℕ → ℕ → ℕ → Type 0
-IsClock n hour minute second = (hour < 24) × (minute < 60) × (second < 60) × (n ≡ hour * 3600 + minute * 60 + second)

@@ -1,7 +1,7 @@
 -- Dates and moments by computation (docs/language.md, "Methods of dates").
 --
 -- That these functions tell just what the relations of `civil_days` mean is what the two clauses of each call come to.
-use Rattle.std.specs.Prelude.{ℕ, zero, suc, ◌+◌, ◌-◌, ◌*◌, ◌/◌, ◌%◌, min, ◌&&◌, nat_lt, nat_le, cond, Bool, true, false, ℤ, pos, negsuc, ◌+ℤ◌, ◌-ℤ◌, ◌*ℤ◌, unsigned_abs, Option, None, Some, List, [], ◌∷◌, ◌++◌, take, drop, length, slice_index, eqb}
+use Rattle.std.specs.Prelude.{ℕ, zero, suc, ◌+◌, ◌-◌, ◌*◌, ◌/◌, ◌%◌, min, ◌&&◌, nat_lt, nat_le, cond, Bool, false, ℤ, pos, negsuc, ◌+ℤ◌, ◌-ℤ◌, ◌*ℤ◌, unsigned_abs, Option, None, Some, List, [], ◌∷◌, ◌++◌, take, drop, length, slice_index, eqb}
 use Rattle.std.specs.Int.{int_div_euclid, int_rem_euclid}
 use Rattle.std.specs.Ordering.{int_eq}
 use Rattle.date_values.specs.Values.{is_civil, moment_value}

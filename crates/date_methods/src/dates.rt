@@ -47,13 +47,7 @@ fn day_from(n: i64) -> Option<i32>
     ensures { result ≡ spec.only_day n }
 {
     match i32::try_from(n) {
-        Ok(day) => {
-            if is_day(day) {
-                Some(day)
-            } else {
-                None
-            }
-        }
+        Ok(day) => { if is_day(day) { Some(day) } else { None } }
         Err(_) => None,
     }
 }

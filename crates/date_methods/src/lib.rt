@@ -7,9 +7,7 @@ mod moments;
 pub use dates::{
     civil, date_of, days_in, days_later, is_leap, month_start, months_later, years_later,
 };
-pub use moments::{
-    Clock, add_days, add_hours, add_minutes, add_seconds, clock_of, new_moment, read_stamp, split,
-};
+pub use moments::{add_days, add_hours, add_minutes, add_seconds, new_moment, read_stamp, split};
 
 #[cfg(test)]
 mod tests;

@@ -1,32 +1,11 @@
 // Moments.
 
 ghost use Rattle.std.specs.Prelude.{◌≡◌, ◌<◌, true, false, pos, ◌+ℤ◌, ◌*ℤ◌, length, unsigned_abs, ◌^◌, MatchOption};
-ghost use Rattle.date_methods.specs.Methods.{IsClock};
 ghost use Rattle.date_methods.specs.Values as spec;
 
 use crate::dates::date_of;
 use civil_days::split_moment;
 use date_values::moment_of;
-
-/// A time of the day.
-#[derive(Clone, Copy, Debug, PartialEq, Eq, Hash, Drop)]
-pub struct Clock {
-    pub hour: u32,
-    pub minute: u32,
-    pub second: u32,
-}
-
-/// The time of the day that so many seconds from its beginning are: `hourGmt`, `minuteGmt` and `secondGmt`.
-pub fn clock_of(second_of_day: u32) -> Clock
-    requires { second_of_day < 86400 }
-    ensures { IsClock second_of_day result.hour result.minute result.second }
-{
-    Clock {
-        hour: second_of_day / 3600,
-        minute: second_of_day / 60 % 60,
-        second: second_of_day % 60,
-    }
-}
 
 /// The day of a moment, and how many seconds it is behind the day's beginning. `None` exactly where it is no moment of
 /// the years 1 to 9999.
@@ -111,7 +90,14 @@ fn seconds_at(hour: i64, minute: i64, second: i64) -> Option<u32>
 
 /// `Datetime.newInstanceGmt`: the moment of a date and a time of the day. `None` exactly where they are none, or the date
 /// isn't of the years 1 to 9999.
-pub fn new_moment(year: i64, month: i64, day: i64, hour: i64, minute: i64, second: i64) -> Option<i64>
+pub fn new_moment(
+    year: i64,
+    month: i64,
+    day: i64,
+    hour: i64,
+    minute: i64,
+    second: i64,
+) -> Option<i64>
     ensures { result ≡ spec.new_moment year month day hour minute second }
 {
     let Some(seconds) = seconds_at(hour, minute, second) else {

@@ -1,11 +1,11 @@
 -- The functions tell just the numbers that texts spell.
-use Rattle.std.proofs.Common.{arith, ◌≡◌, ℕ, ◌<◌, ◌≤◌, ◌+◌, ◌*◌, ◌-◌, ◌^◌, ◌&&◌, Bool, true, false, cond, eqb, nat_lt, nat_le, ltb, leb, Option, None, Some, option_map, option_and_then, MatchOption, IfSome, List, [], ◌∷◌, ◌++◌, length, get_or, eqb-true, ltb-true, lt-ltb, negsuc, unsigned_abs, Result, Ok, Err, le-leb, leb-true, ℤ, pos, neg_ℤ, refl, sym, ap, ap₂, ◌∙◌, subst, append-nil}
+use Rattle.std.proofs.Common.{arith, ◌≡◌, ℕ, ◌<◌, ◌≤◌, ◌+◌, ◌*◌, ◌-◌, ◌^◌, ◌&&◌, Bool, true, false, cond, eqb, nat_lt, nat_le, Option, None, Some, option_map, option_and_then, MatchOption, IfSome, List, [], ◌∷◌, ◌++◌, length, get_or, eqb-true, ltb-true, lt-ltb, negsuc, unsigned_abs, Result, Ok, Err, le-leb, leb-true, ℤ, pos, neg_ℤ, refl, sym, ap, ap₂, ◌∙◌}
 use Rattle.std.specs.Bool.{Decides}
 use Rattle.std.specs.Prelude.{FitsSigned}
 use Rattle.std.specs.Int.{w32, w64}
 use Rattle.std.specs.Char.{digit_value}
 use Rattle.std.specs.Str.Parse.{AllDigits, IsNumeral, digits_value}
-use Rattle.std.proofs.lemmas.Bool.Decides.{Decides-and, Decides-ltb, Decides-eqb, Decides-like}
+use Rattle.std.proofs.lemmas.Bool.Decides.{Decides-and, Decides-ltb}
 use Rattle.std.proofs.lemmas.Int.{ints}
 use Rattle.apex_num.specs.Decimals.{Reads, sign, signed, Spells, IsSize, IsPart, after_dot}
 use Rattle.std.specs.Result.{result_ok}
@@ -26,7 +26,7 @@ pub numeral_of : (ds : List ℕ) → IsNumeral 10 ds → numeral ds ≡ Some (di
 numeral_of ds h = rw ((numeral_decide ds).1 h) refl
 
 numeral_by : (ds : List ℕ) (b : Bool) (n : ℕ) → (nat_lt 0 (length ds) && are_digits ds) ≡ b → cond b (Some (digits_value 10 ds)) None ≡ Some n → IsNumeral 10 ds × (n ≡ digits_value 10 ds)
-numeral_by ds true n e h = ((numeral_decide ds).0 e , cc)
+numeral_by ds true n e h = ((numeral_decide ds).0 e, cc)
 numeral_by ds false n e h = absurd (cc)
 
 pub numeral_is : (ds : List ℕ) (n : ℕ) → numeral ds ≡ Some n → IsNumeral 10 ds × (n ≡ digits_value 10 ds)
@@ -49,7 +49,7 @@ not_eqb a n h = by (eqb a n) refl
     by false e = refl
 
 some_map : {A B : Type 0} (f : A → B) (o : Option A) (b : B) → option_map f o ≡ Some b → (a : A) × (o ≡ Some a) × (b ≡ f a)
-some_map f (Some a) b e = (a , refl , cc)
+some_map f (Some a) b e = (a, refl, cc)
 some_map f None b e = absurd (cc)
 
 -- the size of the text is written behind an optional `-`
@@ -59,7 +59,6 @@ Signed Of text z = (minus : Bool) × (body : List ℕ) × (n : ℕ) × (text ≡
 module _ (Of : List ℕ → ℕ → Type 0) (size : List ℕ → Option ℕ)
     (to : (body : List ℕ) (n : ℕ) → Of body n → size body ≡ Some n) (from : (body : List ℕ) (n : ℕ) → size body ≡ Some n → Of body n)
     (start : (body : List ℕ) (n : ℕ) → Of body n → (cs : List ℕ) → body ≡ 45 ∷ cs → ⊥) where
-
   plain : (body : List ℕ) (n : ℕ) → Of body n → signed_value size body ≡ Some (pos n)
   plain [] n h = ap (option_map pos) (to [] n h)
   plain (c ∷ cs) n h = rw (not_eqb c 45 (λ e. start (c ∷ cs) n h cs (ap (λ x. x ∷ cs) e))) (ap (option_map pos) (to (c ∷ cs) n h))
@@ -69,11 +68,11 @@ module _ (Of : List ℕ → ℕ → Type 0) (size : List ℕ → Option ℕ)
   signed_to text z (true, body, n, w, h, e) = ap (signed_value size) w ∙ ap (option_map (λ k. neg_ℤ (pos k))) (to body n h) ∙ ap Some (sym e)
 
   by_sign : (c : ℕ) (cs : List ℕ) (z : ℤ) (b : Bool) → eqb c 45 ≡ b → cond b (option_map (λ n. neg_ℤ (pos n)) (size cs)) (option_map pos (size (c ∷ cs))) ≡ Some z → Signed Of (c ∷ cs) z
-  by_sign c cs z true e h = let m = some_map (λ n. neg_ℤ (pos n)) (size cs) z h in (true , cs , m.0 , ap (λ x. x ∷ cs) (eqb-true c 45 e) , from cs m.0 m.1 , m.2)
-  by_sign c cs z false e h = let m = some_map pos (size (c ∷ cs)) z h in (false , c ∷ cs , m.0 , refl , from (c ∷ cs) m.0 m.1 , m.2)
+  by_sign c cs z true e h = let m = some_map (λ n. neg_ℤ (pos n)) (size cs) z h in (true, cs, m.0, ap (λ x. x ∷ cs) (eqb-true c 45 e), from cs m.0 m.1, m.2)
+  by_sign c cs z false e h = let m = some_map pos (size (c ∷ cs)) z h in (false, c ∷ cs, m.0, refl, from (c ∷ cs) m.0 m.1, m.2)
 
   pub signed_from : (text : List ℕ) (z : ℤ) → signed_value size text ≡ Some z → Signed Of text z
-  signed_from [] z h = let m = some_map pos (size []) z h in (false , [] , m.0 , refl , from [] m.0 m.1 , m.2)
+  signed_from [] z h = let m = some_map pos (size []) z h in (false, [], m.0, refl, from [] m.0 m.1, m.2)
   signed_from (c ∷ cs) z h = by_sign c cs z _ refl h
 
 -- ---- whole numbers
@@ -91,7 +90,7 @@ minus_no_digit (c ∷ ds) d cs e = let k = digit_from c d.0 in let h = ap (λ xs
 pub whole_told : (text : List ℕ) (z : ℤ) → IsWholeText text z → whole_value text ≡ Some z
 whole_told text z t =
     signed_to Whole numeral (λ b n h. numeral_of b h.0 ∙ ap Some (sym h.1)) numeral_is (λ b n h. minus_no_digit b h.0.1) text z
-      (t.minus , t.digits , digits_value 10 t.digits , t.written , (t.numeral , refl) , t.value)
+    (t.minus, t.digits, digits_value 10 t.digits, t.written, (t.numeral, refl), t.value)
 
 pub whole_is : (text : List ℕ) (z : ℤ) → whole_value text ≡ Some z → IsWholeText text z
 whole_is text z h =
@@ -132,7 +131,7 @@ part_told text c h = ap part_value h.written ∙ by h.part h.digits h.short ∙ 
   where
     by : (ds : List ℕ) → AllDigits 10 ds → length ds ≤ 6 → part_value (after_dot ds) ≡ Some (digits_value 10 ds * 10 ^ (6 - length ds))
     by [] d s = refl
-    by (x ∷ xs) d s = rw (le-leb (length (x ∷ xs)) 6 s) (ap (option_map (λ n. n * 10 ^ (6 - length (x ∷ xs)))) (numeral_of (x ∷ xs) (omega arith , d)))
+    by (x ∷ xs) d s = rw (le-leb (length (x ∷ xs)) 6 s) (ap (option_map (λ n. n * 10 ^ (6 - length (x ∷ xs)))) (numeral_of (x ∷ xs) (omega arith, d)))
 
 dotted : (ds : List ℕ) → 0 < length ds → 46 ∷ ds ≡ after_dot ds
 dotted [] h = absurd (omega arith)
@@ -147,12 +146,13 @@ part_is bs c h = by (from_dot bs) (λ d ds. dot_first bs ds d) h
         let n = numeral_is ds m.0 m.1 in
         record { part = ds; written = ap (λ x. x ∷ ds) e ∙ dotted ds n.0.0; digits = n.0.1; short = leb-true (length ds) 6 q; value = m.2 ∙ ap (λ x. x * 10 ^ (6 - length ds)) n.1 }
     some d ds false q e k = absurd (cc)
+
     by : (t : List ℕ) → ((d : ℕ) (ds : List ℕ) → t ≡ d ∷ ds → d ≡ 46) → part_value t ≡ Some c → IsPart t c
     by [] f k = record { part = []; written = refl; digits = tt; short = omega arith; value = cc }
     by (d ∷ ds) f k = some d ds _ refl (f d ds refl) k
 
 some_then : {A B : Type 0} (f : A → Option B) (o : Option A) (b : B) → option_and_then f o ≡ Some b → (a : A) × (o ≡ Some a) × (f a ≡ Some b)
-some_then f (Some a) b e = (a , refl , e)
+some_then f (Some a) b e = (a, refl, e)
 some_then f None b e = absurd (cc)
 
 size_told : (text : List ℕ) (c : ℕ) → IsSize text c → size_value text ≡ Some c
@@ -179,7 +179,7 @@ minus_no_size body n h cs e = by h.whole h.digits.0 h.digits.1 (sym h.written �
     by (d ∷ ds) l g q = let k = digit_from d g.0 in let f = ap (λ xs. get_or xs 0 0) q in absurd (omega arith)
 
 pub decimal_told : (text : List ℕ) (c : ℤ) → Spells text c → decimal_value text ≡ Some c
-decimal_told text c t = signed_to IsSize size_value size_told size_is minus_no_size text c (t.minus , t.body , t.size , t.written , t.rest , t.value)
+decimal_told text c t = signed_to IsSize size_value size_told size_is minus_no_size text c (t.minus, t.body, t.size, t.written, t.rest, t.value)
 
 pub decimal_is : (text : List ℕ) (c : ℤ) → decimal_value text ≡ Some c → Spells text c
 decimal_is text c h =
@@ -219,9 +219,9 @@ decimal_answer text (Err NotADecimal) h = by (decimal_value text) refl
 -- ---- ranges
 
 pub integer_decide : (z : ℤ) → Decides (integer_fits z) (FitsSigned w32 z)
-integer_decide (pos n) = (λ t. let h = ltb-true n (2 ^ 31) t in omega (arith, ints) , λ h. lt-ltb n (2 ^ 31) (omega (arith, ints)))
-integer_decide (negsuc n) = (λ t. let h = ltb-true n (2 ^ 31) t in omega (arith, ints) , λ h. lt-ltb n (2 ^ 31) (omega (arith, ints)))
+integer_decide (pos n) = (λ t. let h = ltb-true n (2 ^ 31) t in omega (arith, ints), λ h. lt-ltb n (2 ^ 31) (omega (arith, ints)))
+integer_decide (negsuc n) = (λ t. let h = ltb-true n (2 ^ 31) t in omega (arith, ints), λ h. lt-ltb n (2 ^ 31) (omega (arith, ints)))
 
 pub long_decide : (z : ℤ) → Decides (long_fits z) (FitsSigned w64 z)
-long_decide (pos n) = (λ t. let h = ltb-true n (2 ^ 63) t in omega (arith, ints) , λ h. lt-ltb n (2 ^ 63) (omega (arith, ints)))
-long_decide (negsuc n) = (λ t. let h = ltb-true n (2 ^ 63) t in omega (arith, ints) , λ h. lt-ltb n (2 ^ 63) (omega (arith, ints)))
+long_decide (pos n) = (λ t. let h = ltb-true n (2 ^ 63) t in omega (arith, ints), λ h. lt-ltb n (2 ^ 63) (omega (arith, ints)))
+long_decide (negsuc n) = (λ t. let h = ltb-true n (2 ^ 63) t in omega (arith, ints), λ h. lt-ltb n (2 ^ 63) (omega (arith, ints)))

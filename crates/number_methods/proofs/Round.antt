@@ -1,5 +1,5 @@
 -- The rounded number, by computation.
-use Rattle.std.proofs.Common.{arith, nat_lt, ltb-true, lt-ltb, ◌^◌, Result, Ok, Err, ◌≡◌, ℕ, zero, suc, ◌+◌, ◌-◌, ◌*◌, ◌/◌, ◌%◌, ◌<◌, ◌≤◌, ◌⊎◌, Bool, true, false, cond, inl, inr, ⊎_elim, ℤ, pos, negsuc, ◌-ℤ◌, ◌*ℤ◌, neg_ℤ, unsigned_abs, refl, sym, ap, subst, ◌∙◌, suc-mul}
+use Rattle.std.proofs.Common.{arith, nat_lt, ltb-true, lt-ltb, ◌^◌, Result, Ok, Err, ◌≡◌, ℕ, zero, suc, ◌+◌, ◌-◌, ◌*◌, ◌/◌, ◌%◌, ◌<◌, ◌⊎◌, Bool, true, false, cond, inl, inr, ⊎_elim, ℤ, pos, negsuc, ◌*ℤ◌, neg_ℤ, unsigned_abs, refl, sym, ap, subst, ◌∙◌, suc-mul}
 use Rattle.std.proofs.Math.IntN.{pos-*ℤ-pos, negsuc-*ℤ-pos}
 use Rattle.std.proofs.Math.Nat.{one-le-pow, mod-add-div, mod-lt, mul_comm}
 use Rattle.std.proofs.lemmas.Int.{ints}
@@ -42,10 +42,10 @@ at : (n d : ℕ) (b : Bool) → 0 < d → goes_up n d ≡ b → IsHalfEven (pos 
 at n d true h e =
     let m = mod-lt n h in
     let f = far_high n d h in
-    ⊎_elim (λ (more : d < 2 * (n % d)). inl (omega arith)) (λ (half : (2 * (n % d) ≡ d) × (n / d % 2 ≡ 1)). let a = half.0 in let o = half.1 in inr (omega arith , omega arith)) (up_is n d e)
+    ⊎_elim (λ (more : d < 2 * (n % d)). inl (omega arith)) (λ (half : (2 * (n % d) ≡ d) × (n / d % 2 ≡ 1)). let a = half.0 in let o = half.1 in inr (omega arith, omega arith)) (up_is n d e)
 at n d false h e =
     let f = far_low n d in
-    ⊎_elim (λ (less : 2 * (n % d) < d). inl (omega arith)) (λ (half : (2 * (n % d) ≡ d) × (n / d % 2 ≡ 0)). let a = half.0 in let o = half.1 in inr (omega arith , omega arith)) (down_is n d e)
+    ⊎_elim (λ (less : 2 * (n % d) < d). inl (omega arith)) (λ (half : (2 * (n % d) ≡ d) × (n / d % 2 ≡ 0)). let a = half.0 in let o = half.1 in inr (omega arith, omega arith)) (down_is n d e)
 
 pos_half : (n d : ℕ) → 0 < d → IsHalfEven (pos n) (pos d) (pos (nearest_size n d))
 pos_half n d h = at n d _ h refl
@@ -63,7 +63,7 @@ below_zero n q d h =
     let m = mirrored n q d in
     let s : unsigned_abs (neg_ℤ (pos q)) ≡ q = omega (arith, ints) in
     ⊎_elim (λ (less : 2 * distance (pos n) (pos d) (pos q) < d). inl (omega arith))
-      (λ (half : (2 * distance (pos n) (pos d) (pos q) ≡ d) × (q % 2 ≡ 0)). let a = half.0 in let o = half.1 in inr (omega arith , ap (λ k. k % 2) s ∙ o)) h
+    (λ (half : (2 * distance (pos n) (pos d) (pos q) ≡ d) × (q % 2 ≡ 0)). let a = half.0 in let o = half.1 in inr (omega arith, ap (λ k. k % 2) s ∙ o)) h
 
 pub half_even_is : (n : ℤ) (d : ℕ) → 0 < d → IsHalfEven n (pos d) (half_even n d)
 half_even_is (pos n) d h = pos_half n d h

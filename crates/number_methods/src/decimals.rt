@@ -6,7 +6,6 @@ ghost use Rattle.std.specs.Int.{w32};
 ghost use Rattle.std.specs.Option.{SomeIff};
 ghost use Rattle.apex_num.specs.Decimals.{IsHalfEven, Answers};
 ghost use Rattle.number_methods.specs.Methods.{whole_of, unit, Scales};
-
 ghost use Rattle.number_methods.specs.Values.{half_even, scaled, in_range};
 
 use apex_num::{Dec, NumFault, dec_mul};

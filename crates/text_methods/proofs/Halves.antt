@@ -1,9 +1,9 @@
 -- Parts of a text, by scalars and by bytes.
-use Rattle.std.proofs.Common.{arith, subst, drop-drop, ◌≡◌, ◌+◌, ◌-◌, ◌<◌, ◌≤◌, zero, suc, ℕ, List, [], ◌∷◌, ◌++◌, length, take, drop, refl, sym, ap, ap₂, ◌∙◌}
+use Rattle.std.proofs.Common.{arith, subst, drop-drop, ◌≡◌, ◌+◌, ◌-◌, ◌<◌, ◌≤◌, zero, suc, ℕ, List, [], ◌∷◌, ◌++◌, length, take, drop, sym, ap, ap₂, ◌∙◌}
 use Rattle.std.specs.Str.{IsUtf8, IsCharBoundary, chars, encode_utf8_all}
 use Rattle.std.specs.Char.{encode_utf8}
-use Rattle.std.proofs.lemmas.Str.{cons_from_encodes, IsCharBoundary-at_seam, encodes-append, chars-encodes, encodes-chars, scalars-chars, length-le-encodes, chars_from_encodes, chars-append}
-use Rattle.std.proofs.lemmas.List.{drop_all, take-append-drop, length-append, length-drop, length-take}
+use Rattle.std.proofs.lemmas.Str.{cons_from_encodes, IsCharBoundary-at_seam, encodes-append, encodes-chars, length-le-encodes, chars_from_encodes}
+use Rattle.std.proofs.lemmas.List.{drop_all, take-append-drop, length-append, length-drop}
 use Rattle.std.proofs.Math.Seq.{take-append_seam}
 
 -- a text is the text of its first n scalars and that of the others

@@ -1,10 +1,10 @@
 -- Where a text occurs, by scalars and by bytes.
-use Rattle.std.proofs.Common.{arith, nat_le, le-leb, leb-true, append-nil, ◌≡◌, ◌+◌, ◌-◌, ◌<◌, ◌≤◌, ◌&&◌, zero, suc, ℕ, Bool, true, false, cond, eqb, List, [], ◌∷◌, ◌++◌, length, take, drop, refl, sym, ap, ap₂, ◌∙◌, subst, Option, Some, None, option_map, MatchOption, eq-eqb, eqb-true, append_assoc}
+use Rattle.std.proofs.Common.{arith, nat_le, le-leb, leb-true, append-nil, ◌≡◌, ◌+◌, ◌-◌, ◌<◌, ◌≤◌, ◌&&◌, zero, suc, ℕ, true, false, eqb, List, [], ◌∷◌, ◌++◌, length, take, drop, refl, sym, ap, ap₂, ◌∙◌, Some, None, option_map, eq-eqb, eqb-true}
 use Rattle.std.specs.Str.{IsUtf8, chars, encode_utf8_all}
-use Rattle.std.specs.Str.Pattern.{FindsText, RFindsText, LacksTextAt, HasTextAt}
+use Rattle.std.specs.Str.Pattern.{FindsText, RFindsText, LacksTextAt}
 use Rattle.std.proofs.lemmas.Bool.{and_parts, and_from, false_from_ne_true}
 use Rattle.std.proofs.lemmas.Str.{encodes-append, encodes-chars, chars-append}
-use Rattle.std.proofs.lemmas.List.{drop_all, take-append-drop, length-append, length-drop, length-take}
+use Rattle.std.proofs.lemmas.List.{drop_all, take-append-drop, length-append, length-drop}
 use Rattle.std.proofs.lemmas.List.Prefix.{front_rest, front_fits}
 use Rattle.std.proofs.Math.Seq.{take-append_seam, drop-append_seam, drop-append-add}
 use Rattle.text_methods.specs.Texts.{begins, first_of, last_of, later, up_to, before, behind, after, ends}

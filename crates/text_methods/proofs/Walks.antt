@@ -1,5 +1,5 @@
 -- A text from its first or its last scalar on.
-use Rattle.std.proofs.Common.{arith, suc-mul, ℤ, ◌-◌, ◌*◌, ◌≡◌, ◌<◌, ◌≤◌, ◌+◌, zero, suc, ℕ, le-leb, List, [], ◌∷◌, ◌++◌, length, reverse, refl, sym, ap, ◌∙◌, subst}
+use Rattle.std.proofs.Common.{arith, suc-mul, ℤ, ◌-◌, ◌*◌, ◌≡◌, ◌<◌, ◌≤◌, ◌+◌, zero, suc, ℕ, le-leb, List, [], ◌∷◌, ◌++◌, length, reverse, refl, sym, ap, ◌∙◌}
 use Rattle.std.specs.Str.{IsUtf8, chars, encode_utf8_all}
 use Rattle.std.specs.Char.{encode_utf8}
 use Rattle.std.proofs.lemmas.Bool.{lt-leb}

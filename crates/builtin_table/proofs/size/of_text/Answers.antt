@@ -1,4 +1,4 @@
-use Rattle.std.proofs.Common.{rules, arith, ◌∙◌, ◌<◌, ◌^◌, ap, sym, length, reverse}
+use Rattle.std.proofs.Common.{rules, ◌∙◌, ◌<◌, ◌^◌, ap, sym, length, reverse}
 use Rattle.std.specs.Str.{chars, encode_utf8_all}
 use Rattle.std.specs.Char.{to_ascii_uppercase, to_ascii_lowercase}
 use Rattle.text_methods.specs.Texts.{first_by}

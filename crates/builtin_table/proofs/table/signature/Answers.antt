@@ -1,4 +1,4 @@
-use Rattle.std.proofs.Common.{◌<◌, length, ap, ap₂, sym, ◌∙◌, subst, option_and_then}
+use Rattle.std.proofs.Common.{◌<◌, length, ap, ap₂, sym, subst, option_and_then}
 use Rattle.builtin_table.specs.Names.{key_of, pick}
 use Rattle.builtin_table.proofs.Tables.{long_key}
 use Rattle.builtin_table.proofs.table.signature.Goals as goal

@@ -13,4 +13,4 @@ unreachable-requires c = c.in-None.ensures (rising c.text_rows-rows.result (subs
 pub returns : goal.returns
 returns c =
     subst₂ (λ o l. MatchOption o (found l c.args.key.now ≡ None) (λ row. found l c.args.key.now ≡ Some (forms row))) (sym c.copied.ensures) (ap (map forms) c.in-Some.ensures.0 ∙ c.text_rows-rows.ensures)
-      (answer c.in-Some.cases.rows.now c.args.key.now c.find.result c.find.ensures.found c.find.ensures.only c.find.ensures.none)
+    (answer c.in-Some.cases.rows.now c.args.key.now c.find.result c.find.ensures.found c.find.ensures.only c.find.ensures.none)

@@ -1,5 +1,5 @@
 use Rattle.std.proofs.Common.{arith, ◌∙◌, ap, ◌≡◌, ◌+ℤ◌, w64, to_z, of_z}
-use Rattle.std.proofs.lemmas.Int.{to_z-of_z, ints}
+use Rattle.std.proofs.lemmas.Int.{ints}
 use Rattle.date_methods.specs.Values.{only_day}
 use Rattle.date_methods.proofs.Told.{far_from_days}
 use Rattle.date_methods.proofs.dates.days_later.Goals as goal

@@ -11,7 +11,7 @@ returns-in-Ok c =
     let i = simp to_z-of_z at c.in-Ok.ensures in
     let g = subst (SFits w32) (sym i.1) i.0 in
     months_answer c.args.months c.args.day c.add_months.result
-      (subst (λ k. MatchOption c.add_months.result ((l : ℤ) → IsMonthsLater k c.args.day l → ⊥) (λ l. IsMonthsLater k c.args.day l)) i.1 (simp to_z-of_z at c.add_months.ensures))
+    (subst (λ k. MatchOption c.add_months.result ((l : ℤ) → IsMonthsLater k c.args.day l → ⊥) (λ l. IsMonthsLater k c.args.day l)) i.1 (simp to_z-of_z at c.add_months.ensures))
 
 pub returns-in-Err : goal.returns-in-Err
 returns-in-Err c = let m = c.ranges.months in far_months c.args.months c.args.day (simp to_z-of_z at c.in-Err.ensures)

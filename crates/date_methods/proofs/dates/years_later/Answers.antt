@@ -12,7 +12,7 @@ returns-in-Ok c =
     let i = simp to_z-of_z at c.in-Ok.ensures in
     let g = subst (SFits w32) (sym i.1) i.0 in
     months_answer (c.args.years *ℤ pos 12) c.args.day c.add_years.result
-      (subst (λ k. MatchOption c.add_years.result ((l : ℤ) → IsMonthsLater (k *ℤ pos 12) c.args.day l → ⊥) (λ l. IsMonthsLater (k *ℤ pos 12) c.args.day l)) i.1 (simp to_z-of_z at c.add_years.ensures))
+    (subst (λ k. MatchOption c.add_years.result ((l : ℤ) → IsMonthsLater (k *ℤ pos 12) c.args.day l → ⊥) (λ l. IsMonthsLater (k *ℤ pos 12) c.args.day l)) i.1 (simp to_z-of_z at c.add_years.ensures))
 
 pub returns-in-Err : goal.returns-in-Err
 returns-in-Err c = let m = c.ranges.years in let e = simp to_z-of_z at c.in-Err.ensures in far_months (c.args.years *ℤ pos 12) c.args.day (λ f. e (omega (arith, signed_arith)))

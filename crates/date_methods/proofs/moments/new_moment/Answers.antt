@@ -1,4 +1,4 @@
-use Rattle.std.proofs.Common.{arith, w64, sym, ◌∙◌, ap, ◌≡◌, ◌+ℤ◌, ◌*ℤ◌, pos, to_z, of_z}
+use Rattle.std.proofs.Common.{arith, sym}
 use Rattle.std.proofs.lemmas.Int.{to_z-of_z, ints}
 use Rattle.date_methods.specs.Values.{new_day}
 use Rattle.date_methods.proofs.Told.{moment_made}

@@ -1,4 +1,4 @@
-use Rattle.std.proofs.Common.{◌∙◌, subst, sym}
+use Rattle.std.proofs.Common.{◌∙◌, subst}
 use Rattle.apex_num.specs.Decimals.{Reads}
 use Rattle.number_methods.proofs.Read.{decimal_answer}
 use Rattle.number_methods.proofs.texts.read_decimal.Goals as goal

@@ -1,6 +1,5 @@
-use Rattle.std.proofs.Common.{arith, rules, ap, ◌∙◌, ◌+◌, ◌<◌, ◌^◌, length, sym}
+use Rattle.std.proofs.Common.{arith, rules, ◌<◌, ◌^◌, length}
 use Rattle.std.specs.Str.{chars}
-use Rattle.text_methods.specs.Texts.{matches}
 use Rattle.text_methods.proofs.Walks.{some_chars, length-le-chars}
 use Rattle.text_methods.proofs.Counts.{matches_more, matches_none, matches_nothing, back_shorter}
 use Rattle.text_methods.proofs.replaces.count_matches.Goals as goal

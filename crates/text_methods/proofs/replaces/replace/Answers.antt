@@ -1,4 +1,4 @@
-use Rattle.std.proofs.Common.{arith, rules, ap, ◌∙◌, ◌++◌, length, sym, string_bytes, encode_utf8_all, ◌≡◌}
+use Rattle.std.proofs.Common.{rules, ap, ◌∙◌, ◌++◌, string_bytes, encode_utf8_all, ◌≡◌}
 use Rattle.std.specs.Str.{chars}
 use Rattle.text_methods.specs.Texts as spec
 use Rattle.text_methods.proofs.Walks.{some_chars}

@@ -1,4 +1,4 @@
-use Rattle.std.proofs.Common.{arith, rules, ap, ◌∙◌, length, sym, ◌*◌, ◌+◌, ◌-◌, ◌≡◌}
+use Rattle.std.proofs.Common.{arith, ap, ◌∙◌, length, ◌*◌, ◌+◌, ◌-◌, ◌≡◌}
 use Rattle.std.specs.Str.{chars, encode_utf8_all}
 use Rattle.text_methods.specs.Texts as spec
 use Rattle.text_methods.proofs.Counts.{text_size, capped_of}

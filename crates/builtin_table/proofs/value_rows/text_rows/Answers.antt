@@ -1,6 +1,6 @@
 use Rattle.std.proofs.Common.{refl}
 use Rattle.builtin_table.specs.Names.{text_methods}
-use Rattle.builtin_table.proofs.table.text_rows.Goals as goal
+use Rattle.builtin_table.proofs.value_rows.text_rows.Goals as goal
 
 pub returns : goal.returns
 unfolding text_methods

@@ -1,6 +1,6 @@
 use Rattle.std.proofs.Common.{refl}
 use Rattle.builtin_table.specs.Names.{date_methods}
-use Rattle.builtin_table.proofs.table.date_rows.Goals as goal
+use Rattle.builtin_table.proofs.value_rows.date_rows.Goals as goal
 
 pub returns : goal.returns
 unfolding date_methods
