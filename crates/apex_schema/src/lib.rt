@@ -28,6 +28,7 @@ mod sets;
 mod with_rules;
 
 pub use build::SchemaFault;
+pub use places::Places;
 pub use plan::{
     FieldPlan, ObjectPlan, PlanKind, PlanLength, RolePlan, RulePlan, SchemaPlan, UserPlan,
 };

@@ -9,16 +9,17 @@ use apex_text::Name;
 use indexmap::IndexMap;
 use std::alloc::{AllocError, Global};
 
-/// Names, each found by the place where it stands first.
+/// Names, each found by the place where it stands first. Places count from 0.
 #[derive(Drop)]
 pub struct Places {
+    /// The names in their order; one may stand twice.
     pub names: Vec<Name>,
     map: IndexMap<Name, usize>,
     ghost found: { (n : List ℕ) → get bytes_eq map n ≡ place_of names.items n },
 }
 
 impl Places {
-    /// The places of these names.
+    /// The places of these names. Want of memory is the only error.
     pub fn of(alloc: Global, names: Vec<Name>) -> Result<Places, NoMemory>
         ensures { IfOk result (λ p. p.names.items ≡ names.items) }
     {
@@ -26,7 +27,7 @@ impl Places {
         Ok(Places { names, map })
     }
 
-    /// The place of a name.
+    /// The place where a name stands first, found by one look into a hash table.
     pub fn place(&self, name: &Name) -> Option<usize>
         ensures { result ≡ place_of self.now.names.items name.now }
     {
