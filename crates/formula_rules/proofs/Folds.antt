@@ -7,6 +7,8 @@ use Rattle.apex_schema.specs.declared.rule.Rule.TheVariants.{And, Or, rolls-And,
 use Rattle.apex_schema.specs.declared.rule.Rule.TheFolds.{fold-Rule, fold-roll-Rule}
 use Rattle.apex_schema.specs.declared.rule.Rule.TheOpen.{Rule-F}
 use Rattle.apex_schema.specs.Rules.{rule_step, rule_value}
+use Rattle.apex_schema.specs.Formulas.{fit_step, rule_fits}
+use Rattle.apex_schema.specs.declared.schema.Field.{Field}
 
 any_map : (f : Rule → Bool) (rules : List Rule) → list_any (λ b. b) (map f rules) ≡ list_any f rules
 any_map f [] = refl
@@ -22,3 +24,10 @@ module _ (new : Row) (old : Option Row) where
 
   pub or_value : (rules : List Rule) → rule_value new old (Or rules) ≡ list_any (rule_value new old) rules
   or_value rules = ap (fold-Rule Bool (rule_step new old)) (sym (rolls-Or rules)) ∙ fold-roll-Rule Bool (rule_step new old) (Rule-F.Or rules) ∙ any_map (rule_value new old) rules
+
+module _ (fields : List Field) where
+  pub and_fits : (rules : List Rule) → rule_fits fields (And rules) ≡ list_all (rule_fits fields) rules
+  and_fits rules = ap (fold-Rule Bool (fit_step fields)) (sym (rolls-And rules)) ∙ fold-roll-Rule Bool (fit_step fields) (Rule-F.And rules) ∙ all_map (rule_fits fields) rules
+
+  pub or_fits : (rules : List Rule) → rule_fits fields (Or rules) ≡ list_all (rule_fits fields) rules
+  or_fits rules = ap (fold-Rule Bool (fit_step fields)) (sym (rolls-Or rules)) ∙ fold-roll-Rule Bool (fit_step fields) (Rule-F.Or rules) ∙ all_map (rule_fits fields) rules

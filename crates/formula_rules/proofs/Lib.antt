@@ -1,1 +1,6 @@
 mod Folds
+mod Runs
+mod Told
+mod Eaches
+mod Formulas
+mod Whole

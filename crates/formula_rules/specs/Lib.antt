@@ -1,1 +1,5 @@
 pub mod Values
+pub mod Sorts
+pub mod Tokens
+pub mod Grammar
+pub mod Readings

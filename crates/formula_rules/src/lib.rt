@@ -1,10 +1,19 @@
-//! Validation rules: whether a formula holds of a record.
+//! Validation rules: which formula a text is, and whether a formula holds of a record.
 #![tactic(auto)]
 
+mod fault;
+mod grammar;
 mod holds;
+mod read;
+mod scan;
+mod token;
+mod types;
 mod value;
+mod words;
 
+pub use fault::RuleFault;
 pub use holds::rule_holds;
+pub use read::read_rule;
 
 #[cfg(test)]
 mod tests;
