@@ -1,3 +1,4 @@
 mod Facts
 mod Sizes
 mod Tables
+mod LawSteps

@@ -6,6 +6,7 @@ mod call_date;
 mod call_number;
 mod call_text;
 mod exception;
+mod laws;
 mod method;
 mod platform_rows;
 mod shown;
@@ -16,6 +17,7 @@ mod values;
 
 pub use call::call_builtin;
 pub use exception::{BuiltinEnd, ExceptionClass};
+pub use laws::{laws_of_numbers, laws_of_texts};
 pub use method::{
     Builtin, DateMethod, DecimalMethod, ListMethod, MapMethod, MathMethod, MomentMethod,
     NullableMethod, PlatformMethod, ReadMethod, SetMethod, TextAtMethod, TextMethod, TextsMethod,

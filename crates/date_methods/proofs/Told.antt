@@ -52,11 +52,11 @@ far_day n h = sym (ap (λ b. cond b (Some n) None) (no_day n (λ d. h (day_range
 
 -- ---- moments
 
-part_is : (n day : ℤ) (s : ℕ) → s < 86400 → n ≡ day *ℤ pos 86400 +ℤ pos s → (day_part n ≡ day) × (second_part n ≡ s)
+pub part_is : (n day : ℤ) (s : ℕ) → s < 86400 → n ≡ day *ℤ pos 86400 +ℤ pos s → (day_part n ≡ day) × (second_part n ≡ s)
 part_is (pos a) day s l e = (omega (arith, signed_arith), omega (arith, signed_arith))
 part_is (negsuc a) day s l e = (omega (arith, signed_arith), omega (arith, signed_arith))
 
-parts : (n : ℤ) → (second_part n < 86400) × (n ≡ day_part n *ℤ pos 86400 +ℤ pos (second_part n))
+pub parts : (n : ℤ) → (second_part n < 86400) × (n ≡ day_part n *ℤ pos 86400 +ℤ pos (second_part n))
 parts (pos a) = (omega (arith, signed_arith), omega (arith, signed_arith))
 parts (negsuc a) = (omega (arith, signed_arith), omega (arith, signed_arith))
 
@@ -88,12 +88,12 @@ split_answer n None h = false_from_ne_true (is_moment n) (λ t. h (day_part n, s
 
 -- ---- months
 
-months_at : (months n : ℤ) (y m d : ℕ) → IsDateOf n y m d → months_later months n ≡ in_month (pos (y * 12 + m) -ℤ pos 1 +ℤ months) d
+pub months_at : (months n : ℤ) (y m d : ℕ) → IsDateOf n y m d → months_later months n ≡ in_month (pos (y * 12 + m) -ℤ pos 1 +ℤ months) d
 months_at months n y m d h =
     ap (λ b. cond b (in_month (pos ((date_at n).year * 12 + (date_at n).month) -ℤ pos 1 +ℤ months) (date_at n).day) None) (day_so n y m d h)
     ∙ ap (λ (at : Date). in_month (pos (at.year * 12 + at.month) -ℤ pos 1 +ℤ months) at.day) (date_at_is n y m d h)
 
-no_months : (months n : ℤ) → (IsDay n → ⊥) → months_later months n ≡ None
+pub no_months : (months n : ℤ) → (IsDay n → ⊥) → months_later months n ≡ None
 no_months months n h = ap (λ b. cond b (in_month (pos ((date_at n).year * 12 + (date_at n).month) -ℤ pos 1 +ℤ months) (date_at n).day) None) (no_day n h)
 
 in_range : (t d : ℕ) → 12 ≤ t → t < 120000 → in_month (pos t) d ≡ Some (cut_to (t / 12) (t % 12 + 1) d)
@@ -104,11 +104,35 @@ out_of_range (pos k) d h =
     ap (λ b. cond b (Some (cut_to (k / 12) (k % 12 + 1) d)) None) (false_from_ne_true (leb 12 k && ltb k 120000) (λ e. let p = and_parts (leb 12 k) (ltb k 120000) e in h k refl (leb-true 12 k p.0) (ltb-true k 120000 p.1)))
 out_of_range (negsuc k) d h = refl
 
-month_long : (y : ℤ) (m : ℕ) → 1 ≤ days_in_month y m
+pub month_long : (y : ℤ) (m : ℕ) → 1 ≤ days_in_month y m
 month_long y m = by (is_leap_year y) refl (eqb m 2) refl (eqb m 4 || (eqb m 6 || (eqb m 9 || eqb m 11)))
   where
     by : (l : Bool) → is_leap_year y ≡ l → (f : Bool) → eqb m 2 ≡ f → (s : Bool) → 1 ≤ days_in_month y m
     by l e f g s = grind arith
+
+-- the day in a month that is there
+pub month_there : (months n : ℤ) (k : ℕ) → is_day n ≡ true → pos ((date_at n).year * 12 + (date_at n).month) -ℤ pos 1 +ℤ months ≡ pos k → 12 ≤ k → k < 120000
+    → IsMonthsLater months n (cut_to (k / 12) (k % 12 + 1) (date_at n).day)
+month_there months n k e is low high =
+    let date = date_at n in
+    let from = day_is n e in
+    let y : k / 12 * 12 + (k % 12 + 1) ≡ k + 1 = omega arith in
+    let long = month_long (pos (k / 12)) (k % 12 + 1) in
+    let some = from.0.4 in
+    let year_low : 1 ≤ k / 12 = omega arith in
+    let year_high : k / 12 ≤ 9999 = omega arith in
+    let month_low : 1 ≤ k % 12 + 1 = omega arith in
+    let month_high : k % 12 + 1 ≤ 12 = omega arith in
+    record {
+      year = date.year;
+      month = date.month;
+      day = date.day;
+      from = from;
+      year₂ = k / 12;
+      month₂ = k % 12 + 1;
+      after = (year_low, year_high, month_low, month_high, omega (arith, signed_arith));
+      to = ((year_low, year_high, month_low, month_high, omega arith, omega arith), refl);
+    }
 
 pub months_answer : (months n : ℤ) (r : Option ℤ) → MatchOption r ((l : ℤ) → IsMonthsLater months n l → ⊥) (λ l. IsMonthsLater months n l) → r ≡ months_later months n
 months_answer months n (Some l) h =
@@ -126,26 +150,8 @@ months_answer months n None h = by (is_day n) refl
     by false e = sym (no_months months n (λ d. let t = (day_decide n).1 d in absurd (cc)))
     by true e =
         let date = date_at n in
-        let from = day_is n e in
-        sym (months_at months n date.year date.month date.day from ∙ out_of_range (pos (date.year * 12 + date.month) -ℤ pos 1 +ℤ months) date.day (λ k is low high.
-        let y : k / 12 * 12 + (k % 12 + 1) ≡ k + 1 = omega arith in
-        let long = month_long (pos (k / 12)) (k % 12 + 1) in
-        let some = from.0.4 in
-        let year_low : 1 ≤ k / 12 = omega arith in
-        let year_high : k / 12 ≤ 9999 = omega arith in
-        let month_low : 1 ≤ k % 12 + 1 = omega arith in
-        let month_high : k % 12 + 1 ≤ 12 = omega arith in
-        h (cut_to (k / 12) (k % 12 + 1) date.day)
-        (record {
-          year = date.year;
-          month = date.month;
-          day = date.day;
-          from = from;
-          year₂ = k / 12;
-          month₂ = k % 12 + 1;
-          after = (year_low, year_high, month_low, month_high, omega (arith, signed_arith));
-          to = ((year_low, year_high, month_low, month_high, omega arith, omega arith), refl);
-        })))
+        sym (months_at months n date.year date.month date.day (day_is n e) ∙ out_of_range (pos (date.year * 12 + date.month) -ℤ pos 1 +ℤ months) date.day (λ k is low high.
+        h (cut_to (k / 12) (k % 12 + 1) date.day) (month_there months n k e is low high)))
 
 -- so many months that no 32 bits hold them lead nowhere
 pub far_months : (months n : ℤ) → (FitsSigned w32 months → ⊥) → None ≡ months_later months n

@@ -1,3 +1,4 @@
 mod Near
 mod Read
 mod Round
+mod LawSteps

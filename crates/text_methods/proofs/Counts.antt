@@ -29,7 +29,7 @@ counted_here t ts c cs n false (Some m) rest e ih =
     ih m refl ∙ ap (λ k. suc (counted (t ∷ ts) 0 (drop (suc (length ts)) (drop k (c ∷ cs))))) (some_same (suc m) n e)
 counted_here t ts c cs n false None rest e ih = absurd (cc)
 
-counted_found : (t : ℕ) (ts cs : List ℕ) (n : ℕ) → first_of (t ∷ ts) cs ≡ Some n → counted (t ∷ ts) 0 cs ≡ suc (counted (t ∷ ts) 0 (drop (suc (length ts)) (drop n cs)))
+pub counted_found : (t : ℕ) (ts cs : List ℕ) (n : ℕ) → first_of (t ∷ ts) cs ≡ Some n → counted (t ∷ ts) 0 cs ≡ suc (counted (t ∷ ts) 0 (drop (suc (length ts)) (drop n cs)))
 counted_found t ts [] n e = absurd (cc)
 counted_found t ts (c ∷ cs) n e =
     counted_here t ts c cs n (begins (t ∷ ts) (c ∷ cs)) (first_of (t ∷ ts) cs) (counted (t ∷ ts) 0 cs) e (λ m. counted_found t ts cs m)
@@ -39,7 +39,7 @@ counted_not t ts true r here rest e ih = absurd (cc)
 counted_not t ts false None here rest e ih = ih refl
 counted_not t ts false (Some m) here rest e ih = absurd (cc)
 
-counted_none : (t : ℕ) (ts cs : List ℕ) → first_of (t ∷ ts) cs ≡ None → counted (t ∷ ts) 0 cs ≡ 0
+pub counted_none : (t : ℕ) (ts cs : List ℕ) → first_of (t ∷ ts) cs ≡ None → counted (t ∷ ts) 0 cs ≡ 0
 counted_none t ts [] e = refl
 counted_none t ts (c ∷ cs) e = counted_not t ts (begins (t ∷ ts) (c ∷ cs)) (first_of (t ∷ ts) cs) _ _ e (counted_none t ts cs)
 

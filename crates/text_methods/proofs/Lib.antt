@@ -2,3 +2,4 @@ mod Counts
 mod Halves
 mod Occurs
 mod Walks
+mod LawSteps

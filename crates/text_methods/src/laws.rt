@@ -1,0 +1,52 @@
+// Laws of the definitions that the methods of this crate meet. The functions do nothing: what they promise is proved.
+
+ghost use Rattle.text_methods.specs.Laws as laws;
+
+/// Laws of the parts of a text.
+pub fn laws_of_parts()
+    ensures length { laws.LengthAdds }
+    ensures substring { laws.PartFits }
+    ensures whole { laws.WholePart }
+    ensures left_and_right { laws.LeftAndRight }
+    ensures mid { laws.MidIsPart }
+{}
+
+/// Laws of where a text occurs in another.
+pub fn laws_of_places()
+    ensures contains { laws.ContainsSplits }
+    ensures starts { laws.StartSplits }
+    ensures ends { laws.EndSplits }
+    ensures first { laws.FirstSplits }
+    ensures last { laws.LastSplits }
+    ensures first_from { laws.FirstFromCounts }
+    ensures before_and_after { laws.BeforeAndAfter }
+    ensures without_start { laws.StartGoes }
+    ensures without_end { laws.EndGoes }
+{}
+
+/// Laws of all occurrences of a text in another.
+pub fn laws_of_occurrences()
+    ensures by_itself { laws.ReplacedByItself }
+    ensures nowhere { laws.ReplacedNowhere }
+    ensures counted { laws.CountedNowhere }
+    ensures removed { laws.RemovedSize }
+{}
+
+/// Laws of letters.
+pub fn laws_of_letters()
+    ensures case { laws.CaseFolds }
+    ensures first { laws.FirstCaseAlone }
+    ensures equals { laws.EqualsIsSame }
+    ensures equals_bar_case { laws.EqualsBarCase }
+    ensures compares { laws.ComparesInOrder }
+    ensures reverse { laws.ReversedTwice }
+{}
+
+/// Laws of blanks, and of texts that are made longer.
+pub fn laws_of_blanks()
+    ensures trim { laws.TrimsBothEnds }
+    ensures pad { laws.PadsTo }
+    ensures repeat { laws.RepeatedSize }
+    ensures numeric { laws.NumericIsDigits }
+    ensures blank { laws.BlankIsWhite }
+{}
