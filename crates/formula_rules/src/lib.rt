@@ -13,7 +13,7 @@ mod words;
 
 pub use fault::RuleFault;
 pub use holds::rule_holds;
-pub use read::read_rule;
+pub use read::{field_places, read_rule, read_rule_by};
 
 #[cfg(test)]
 mod tests;

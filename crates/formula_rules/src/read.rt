@@ -19,8 +19,9 @@ use std::alloc::Global;
 // How many parentheses may be open at once.
 const ROOM: usize = 64;
 
-// The names of fields, each with its number.
-fn names_of(alloc: Global, fields: &[Field]) -> Result<Places, NoMemory>
+/// The names of fields without their case, each with the number of the first field that has it: what `read_rule_by`
+/// looks names up in.
+pub fn field_places(alloc: Global, fields: &[Field]) -> Result<Places, NoMemory>
     ensures { IfOk result (λ places. places.names.items ≡ field_names fields.now) }
 {
     let mut names = Vec::new(alloc);
@@ -41,6 +42,28 @@ fn whole(alloc: Global, fields: &Places, tokens: &[Token]) -> Result<Rule, RuleF
     Ok(rule)
 }
 
+/// What `read_rule` answers, for a caller that reads many formulas of one object: `fields` are the places of the names
+/// of its fields, as `field_places` makes them.
+pub fn read_rule_by(
+    alloc: Global,
+    fields: &Places,
+    object: &Object,
+    text: &[u8],
+) -> Result<Rule, RuleFault>
+    requires { fields.now.names.items ≡ field_names object.now.fields }
+    ensures reads { IfOk result (λ rule. IsFormula object.now text.now rule) }
+    ensures only { IfOk result (λ rule. (other : Rule') → IsFormula object.now text.now other → other ≡ rule) }
+    ensures none { IfErr result (λ fault. fault ≡ BadRule → (rule : Rule') → IsFormula object.now text.now rule → ⊥) }
+{
+    let tokens = tokens_of(alloc, text)?;
+    let rule = whole(alloc, fields, tokens.as_slice())?;
+    if rule_fits(object.fields.as_slice(), &rule) {
+        Ok(rule)
+    } else {
+        Err(RuleFault::BadRule)
+    }
+}
+
 /// The formula of an object that a text is. Words and fields are told apart without case; a field is the object's
 /// first of that name. `BadRule` exactly where the text is no formula: where it has other tokens, where they are put
 /// together otherwise, where more than 64 parentheses are open at once, where a name is no field, or where types don't
@@ -50,12 +73,6 @@ pub fn read_rule(alloc: Global, object: &Object, text: &[u8]) -> Result<Rule, Ru
     ensures only { IfOk result (λ rule. (other : Rule') → IsFormula object.now text.now other → other ≡ rule) }
     ensures none { IfErr result (λ fault. fault ≡ BadRule → (rule : Rule') → IsFormula object.now text.now rule → ⊥) }
 {
-    let tokens = tokens_of(alloc, text)?;
-    let fields = names_of(alloc, object.fields.as_slice())?;
-    let rule = whole(alloc, &fields, tokens.as_slice())?;
-    if rule_fits(object.fields.as_slice(), &rule) {
-        Ok(rule)
-    } else {
-        Err(RuleFault::BadRule)
-    }
+    let fields = field_places(alloc, object.fields.as_slice())?;
+    read_rule_by(alloc, &fields, object, text)
 }
