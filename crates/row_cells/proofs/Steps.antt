@@ -1,5 +1,5 @@
 -- Cells of texts, by what the texts are.
-use Rattle.std.proofs.Common.{arith, ◌≡◌, ◌+◌, ◌⊎◌, ℕ, ℤ, Some, None, subst, List, [], ◌∷◌, ◌++◌, length, take, inl, inr, refl, sym, ap, ◌∙◌}
+use Rattle.std.proofs.Common.{arith, ◌≡◌, ◌+◌, ◌⊎◌, ℕ, ℤ, Some, None, subst, List, length, take, inl, inr, refl, sym, ap, ◌∙◌}
 use Rattle.std.proofs.lemmas.List.{length-append}
 use Rattle.std.proofs.Math.Seq.{take-append_seam}
 use Rattle.apex_num.specs.declared.cell.Cell.TheVariants as Cells
@@ -7,7 +7,7 @@ use Rattle.bundle_read.specs.declared.entries.CellValue.{CellValue}
 use Rattle.bundle_read.specs.declared.entries.CellValue.TheVariants as Written
 use Rattle.date_texts.specs.Forms.{IsDateText, IsMomentText}
 use Rattle.row_cells.specs.Cells.{Only, IsIdCell, IsDayCell, IsMomentCell}
-use Rattle.apex_num.specs.Ids.{IsId, Names, checks, long_id}
+use Rattle.apex_num.specs.Ids.{Names, checks, long_id}
 
 long_size : (id : List ℕ) → length (long_id id) ≡ length id + 3
 long_size id = length-append id (checks id)

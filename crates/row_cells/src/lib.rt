@@ -2,8 +2,10 @@
 #![tactic(auto)]
 
 mod cells;
+mod rows;
 
 pub use cells::cell_of;
+pub use rows::{RowFault, row_of};
 
 #[cfg(test)]
 mod tests;

@@ -1,9 +1,11 @@
 // Written values and their cells, by hand: `kind value`, and what they come to.
 
 use super::*;
+use apex_list::Items;
 use apex_num::{Cell, Text};
-use apex_schema::FieldKind;
-use bundle_read::CellValue;
+use apex_schema::{Field, FieldKind, Rollup, RollupBy};
+use bundle_read::{CellEntry, CellValue, RowEntry};
+use formula_rules::field_places;
 use std::alloc::{AllocError, Global};
 use std::test::Fail;
 
@@ -103,5 +105,77 @@ fn ids(rt: HostRuntime) -> Result<(), Fail> {
         each(alloc, &text(alloc, "001D000000IqhSLIAA")?)?.as_str(),
         "t-----"
     );
+    Ok(())
+}
+
+fn field(alloc: Global, name: &str, kind: FieldKind) -> Result<Field, AllocError> {
+    Ok(Field {
+        name: Text::from_str(alloc, name)?,
+        kind,
+        required: false,
+    })
+}
+
+fn total() -> FieldKind {
+    FieldKind::Rollup(Rollup {
+        detail: 0,
+        by: RollupBy::Count,
+        field: None,
+    })
+}
+
+fn entry(alloc: Global, name: &str, value: CellValue) -> Result<CellEntry, AllocError> {
+    Ok(CellEntry {
+        name: Text::from_str(alloc, name)?,
+        value,
+    })
+}
+
+// A row of a text, a number and a roll-up, with these keys, all of which are 1, as it is told.
+fn told(alloc: Global, keys: &[&str]) -> Result<String, AllocError> {
+    let fields = [
+        field(alloc, "Name", FieldKind::Text(3))?,
+        field(alloc, "Amount", FieldKind::Number)?,
+        field(alloc, "Total", total())?,
+    ];
+    let mut cells = Items::new(alloc);
+    for key in keys {
+        cells.push(entry(alloc, key, CellValue::Whole(1))?)?;
+    }
+    row_told(alloc, &fields, &RowEntry { cells })
+}
+
+fn row_told(alloc: Global, fields: &[Field], row: &RowEntry) -> Result<String, AllocError> {
+    let places = field_places(alloc, fields)?;
+    match row_of(alloc, &places, fields, row) {
+        Ok(cells) => {
+            let mut line = String::new(alloc);
+            for cell in cells.as_slice() {
+                line.push_str(letter(cell))?;
+            }
+            Ok(line)
+        }
+        Err(RowFault::UnknownField) => String::from_str(alloc, "UnknownField"),
+        Err(RowFault::BadCell) => String::from_str(alloc, "BadCell"),
+        Err(RowFault::NoMemory) => Err(AllocError),
+    }
+}
+
+#[test]
+fn rows(rt: HostRuntime) -> Result<(), Fail> {
+    let alloc = rt.alloc();
+    assert_eq!(rt; told(alloc, &[])?.as_str(), "---");
+    assert_eq!(rt; told(alloc, &["AMOUNT"])?.as_str(), "-n-");
+    assert_eq!(rt; told(alloc, &["Name"])?.as_str(), "BadCell");
+    assert_eq!(rt; told(alloc, &["Amount", "amount"])?.as_str(), "BadCell");
+    Ok(())
+}
+
+#[test]
+fn unknown_fields(rt: HostRuntime) -> Result<(), Fail> {
+    let alloc = rt.alloc();
+    assert_eq!(rt; told(alloc, &["Total"])?.as_str(), "UnknownField");
+    assert_eq!(rt; told(alloc, &["Amount", "Nome"])?.as_str(), "UnknownField");
+    assert_eq!(rt; told(alloc, &["Name", "Nome"])?.as_str(), "UnknownField");
     Ok(())
 }
