@@ -1,5 +1,5 @@
 -- Which cells a written row has (docs/formats.md, "Cells").
-use Rattle.std.specs.Prelude.{◌≡◌, ℕ, List, [], ◌∷◌, replicate, length, slice_get, slice_set, Option, None, Some, is_none, true, false}
+use Rattle.std.specs.Prelude.{◌≡◌, ℕ, eqb, Bool, true, false, List, [], ◌∷◌, length, filter, slice_get, Option, None, Some, is_none}
 use Rattle.std.specs.List.{list_any}
 use Rattle.apex_num.specs.declared.cell.Cell.{Cell}
 use Rattle.apex_text.specs.Fold.{folded}
@@ -23,23 +23,38 @@ if_written n _ = Some n
 abbrev pub field_at : List Field → CellEntry → Option ℕ
 field_at fields e = bind (place_of (field_names fields) (folded e.name)) (λ n. bind (slice_get fields n) (λ (f : Field). if_written n f.kind))
 
+-- an entry names no field
+abbrev pub some_unknown : List Field → List CellEntry → Bool
+some_unknown fields entries = list_any (λ e. is_none (field_at fields e)) entries
+
+-- the entries that name field n
+abbrev pub is_number : ℕ → Option ℕ → Bool
+is_number n None = false
+is_number n (Some m) = eqb m n
+
+abbrev pub naming : List Field → ℕ → List CellEntry → List CellEntry
+naming fields n entries = filter (λ e. is_number n (field_at fields e)) entries
+
+-- what a row knows of a field that these entries name: nothing where none does, the cell of the only one, and
+-- no row has two
+abbrev pub Tells : FieldKind → List CellEntry → Option Cell → Type 0
+Tells kind [] known = known ≡ None
+Tells kind (e ∷ []) known = (c : Cell) × (known ≡ Some c) × IsCell kind e.value c
+Tells kind (e ∷ d ∷ more) known = ⊥
+
 abbrev pub Known : Type 0
 Known = List (Option Cell)
 
--- each of these entries puts its cell at its field's place, where none stands
-abbrev pub Puts : List Field → Known → List CellEntry → Known → Type 0
-Puts fields before [] after = after ≡ before
-Puts fields before (e ∷ entries) after =
-    (n : ℕ) × (f : Field) × (c : Cell) × (field_at fields e ≡ Some n) × (slice_get fields n ≡ Some f) × (slice_get before n ≡ Some None) × IsCell f.kind e.value c × Puts fields (slice_set before n (Some c)) entries after
-
 -- the cells that a row knows, one place for each field
-abbrev pub IsRow : List Field → List CellEntry → Known → Type 0
-IsRow fields entries cells = Puts fields (replicate (length fields) None) entries cells
+pub record IsRow (fields : List Field) (entries : List CellEntry) (cells : Known) : Type 0 where
+  pub named : some_unknown fields entries ≡ false
+  pub count : length cells ≡ length fields
+  pub each : (n : ℕ) (f : Field) (known : Option Cell) → slice_get fields n ≡ Some f → slice_get cells n ≡ Some known → Tells f.kind (naming fields n entries) known
 
 -- an entry names no field; or each does, and the row has no cells; want of memory is free
 abbrev pub IsRowFault : List Field → List CellEntry → RowFault → Type 0
-IsRowFault fields entries UnknownField = list_any (λ e. is_none (field_at fields e)) entries ≡ true
-IsRowFault fields entries BadCell = (list_any (λ e. is_none (field_at fields e)) entries ≡ false) × ((cells : Known) → IsRow fields entries cells → ⊥)
+IsRowFault fields entries UnknownField = some_unknown fields entries ≡ true
+IsRowFault fields entries BadCell = (some_unknown fields entries ≡ false) × ((cells : Known) → IsRow fields entries cells → ⊥)
 IsRowFault fields entries NoMemory = Unit {0}
 
 -- these cells and no others
@@ -49,7 +64,7 @@ IsOnlyRow fields entries cells = IsRow fields entries cells × ((other : Known) 
 -- ---- what calls tell
 
 abbrev pub NotNumbered : List Field → List CellEntry → RowFault → Type 0
-NotNumbered fields entries UnknownField = list_any (λ e. is_none (field_at fields e)) entries ≡ true
+NotNumbered fields entries UnknownField = some_unknown fields entries ≡ true
 NotNumbered fields entries BadCell = ⊥
 NotNumbered fields entries NoMemory = Unit {0}
 

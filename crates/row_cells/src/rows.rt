@@ -10,7 +10,7 @@ use apex_list::Items;
 use apex_num::{Cell, NoMemory};
 use apex_schema::{Field, FieldKind, Places};
 use apex_text::Name;
-use bundle_read::{CellEntry, RowEntry};
+use bundle_read::CellEntry;
 use std::alloc::{AllocError, Global};
 use thiserror::Error;
 
@@ -135,18 +135,17 @@ fn cells(
     Ok(cells)
 }
 
-/// The cells that a written row knows, a place for each field of its object, `None` where the row doesn't name it.
+/// The cells that a row of these entries knows, a place for each field of its object, `None` where none names it.
 /// `places` are those of the fields' names, as `formula_rules::field_places` makes them. `UnknownField` comes before `BadCell`, whichever key has it.
 pub fn row_of(
     alloc: Global,
     places: &Places,
     fields: &[Field],
-    row: &RowEntry,
+    entries: &[CellEntry],
 ) -> Result<Vec<Option<Cell>>, RowFault>
     requires { places.now.names.items ≡ field_names fields.now }
-    ensures { MatchResult result (λ cells. spec.IsOnlyRow fields.now row.now.cells cells.items) (spec.IsRowFault fields.now row.now.cells) }
+    ensures { MatchResult result (λ cells. spec.IsOnlyRow fields.now entries.now cells.items) (spec.IsRowFault fields.now entries.now) }
 {
-    let entries = row.cells.as_slice();
     let numbers = numbers(alloc, places, fields, entries)?;
     cells(alloc, fields, entries, numbers.as_slice())
 }

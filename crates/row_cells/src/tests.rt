@@ -4,7 +4,7 @@ use super::*;
 use apex_list::Items;
 use apex_num::{Cell, Text};
 use apex_schema::{Field, FieldKind, Rollup, RollupBy};
-use bundle_read::{CellEntry, CellValue, RowEntry};
+use bundle_read::{CellEntry, CellValue};
 use formula_rules::field_places;
 use std::alloc::{AllocError, Global};
 use std::test::Fail;
@@ -142,12 +142,12 @@ fn told(alloc: Global, keys: &[&str]) -> Result<String, AllocError> {
     for key in keys {
         cells.push(entry(alloc, key, CellValue::Whole(1))?)?;
     }
-    row_told(alloc, &fields, &RowEntry { cells })
+    row_told(alloc, &fields, cells.as_slice())
 }
 
-fn row_told(alloc: Global, fields: &[Field], row: &RowEntry) -> Result<String, AllocError> {
+fn row_told(alloc: Global, fields: &[Field], entries: &[CellEntry]) -> Result<String, AllocError> {
     let places = field_places(alloc, fields)?;
-    match row_of(alloc, &places, fields, row) {
+    match row_of(alloc, &places, fields, entries) {
         Ok(cells) => {
             let mut line = String::new(alloc);
             for cell in cells.as_slice() {

@@ -1,0 +1,6 @@
+pub mod Written
+pub mod Words
+pub mod Seeds
+pub mod Views
+pub mod Keys
+pub mod Rows

@@ -1,0 +1,14 @@
+//! The rows of a tenant's seed, from what is written for them.
+#![tactic(auto)]
+
+mod cells;
+mod fault;
+mod keys;
+mod made;
+mod row;
+mod seed;
+mod shape;
+mod written;
+
+pub use fault::SeedFault;
+pub use seed::seed_rows;
