@@ -1,3 +1,4 @@
 mod Steps
 mod RowSteps
 mod SeedSteps
+mod LawSteps

@@ -3,4 +3,5 @@ pub mod Words
 pub mod Seeds
 pub mod Views
 pub mod Keys
+pub mod Laws
 pub mod Rows

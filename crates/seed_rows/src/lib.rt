@@ -4,6 +4,7 @@
 mod cells;
 mod fault;
 mod keys;
+mod laws;
 mod made;
 mod row;
 mod seed;
@@ -11,4 +12,5 @@ mod shape;
 mod written;
 
 pub use fault::SeedFault;
+pub use laws::laws_of_seeds;
 pub use seed::seed_rows;
