@@ -1,12 +1,16 @@
-//! Reads seeds, one a line, each the list that a bundle has under `seed`, and prints for each the rows that it says
-//! for a tenant of two users and four objects, or its first fault.
+//! Reads seeds and saves, one a line, a seed as the list that a bundle has under `seed`, a save as the object that a
+//! request has under `save`, and prints for each what it says for a tenant of two users and four objects, or its first
+//! fault.
 #![tactic(auto)]
 
+mod saves;
 mod shown;
 
 use apex_io::{StdSource, read_all};
 use apex_schema::{Fault, Schema, SchemaFault};
 use bundle_read::{Bundle, BundleFault, TenantPlan, read_bundle};
+use saves::{first_save, save_line};
+use schema_places::SchemaPlaces;
 use seed_rows::{SeedFault, seed_rows};
 use shown::add_row;
 use std::alloc::{AllocError, Global};
@@ -36,7 +40,12 @@ const FRONT: &str =
 // What stands behind it.
 const BACK: &str = r#","sessions":[]}]}"#;
 
-fn fault_line(alloc: Global, fault: &Fault) -> Result<String, AllocError> {
+// What stands between the objects and a save, and behind the save.
+const BEFORE_SAVE: &str = r#"[],"sessions":[{"user":"ann","requests":[{"save":"#;
+
+const BEHIND_SAVE: &str = "}]}]}]}";
+
+pub fn fault_line(alloc: Global, fault: &Fault) -> Result<String, AllocError> {
     let word = fault.word;
     format!(in alloc; "{}: {word}", fault.place.as_str())
 }
@@ -46,7 +55,11 @@ fn seed_line(alloc: Global, schema: &Schema, tenant: &TenantPlan) -> Result<Stri
     if schema.users.len() > MOST_USERS {
         return String::from_str(alloc, "too many users");
     }
-    match seed_rows(alloc, schema, tenant.seed.as_slice()) {
+    let places = SchemaPlaces::of(alloc, schema)?;
+    if let Some(save) = first_save(tenant) {
+        return save_line(alloc, &places, save);
+    }
+    match seed_rows(alloc, &places, tenant.seed.as_slice()) {
         Ok(rows) => {
             let mut line = String::from_str(alloc, "seed")?;
             for row in rows.as_slice() {
@@ -78,8 +91,12 @@ fn bundle_line(alloc: Global, bundle: &Bundle) -> Result<String, AllocError> {
 }
 
 // What is told of a line.
-fn answer(alloc: Global, seed: &str) -> Result<String, AllocError> {
-    let text = format!(in alloc; "{FRONT}{seed}{BACK}")?;
+fn answer(alloc: Global, line: &str) -> Result<String, AllocError> {
+    let text = if line.starts_with('{') {
+        format!(in alloc; "{FRONT}{BEFORE_SAVE}{line}{BEHIND_SAVE}")?
+    } else {
+        format!(in alloc; "{FRONT}{line}{BACK}")?
+    };
     match read_bundle(alloc, text.as_bytes()) {
         Ok(bundle) => bundle_line(alloc, &bundle),
         Err(BundleFault::Wrong(fault)) => fault_line(alloc, &fault),

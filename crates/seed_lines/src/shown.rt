@@ -11,7 +11,8 @@ fn add_bytes(line: &mut String, bytes: &[u8]) -> Result<(), AllocError> {
     }
 }
 
-fn add_cell(alloc: Global, line: &mut String, cell: &Cell) -> Result<(), AllocError> {
+/// With a cell.
+pub fn add_cell(alloc: Global, line: &mut String, cell: &Cell) -> Result<(), AllocError> {
     match cell {
         Cell::Null => line.push_str("null"),
         Cell::Bool(true) => line.push_str("true"),

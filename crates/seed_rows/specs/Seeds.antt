@@ -18,7 +18,8 @@ use Rattle.row_cells.specs.declared.rows.RowFault.TheVariants as Fault'
 use Rattle.row_cells.specs.Rows.{Known, IsRow, IsRowFault, is_number}
 use Rattle.seed_rows.specs.declared.fault.SeedFault.{SeedFault}
 use Rattle.seed_rows.specs.declared.fault.SeedFault.TheVariants.{Wrong, NoMemory}
-use Rattle.seed_rows.specs.Written.{Written, object_names, written}
+use Rattle.schema_places.specs.Names.{object_names}
+use Rattle.seed_rows.specs.Written.{Written, written}
 use Rattle.seed_rows.specs.Words.{word_of}
 
 -- ---- one row

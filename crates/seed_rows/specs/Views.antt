@@ -1,6 +1,5 @@
 -- What contracts see of rows that are borrowed, and of checks.
 use Rattle.std.specs.Prelude.{ℕ, List, map}
-use Rattle.apex_schema.specs.declared.places.Places.{Places}
 use Rattle.apex_schema.specs.declared.row.Row.{Row}
 use Rattle.seed_rows.specs.declared.cells.Check.{Check}
 use Rattle.seed_rows.specs.declared.cells.Check.TheVariants as Checks
@@ -21,6 +20,3 @@ test_of all Checks.Dangling = Dangling all
 
 abbrev pub ids_of : List Row → List (List ℕ)
 ids_of rows = map (λ (r : Row). r.id) rows
-
-abbrev pub names_in : Places → List (List ℕ)
-names_in p = p.names.items

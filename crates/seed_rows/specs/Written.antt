@@ -2,7 +2,6 @@
 use Rattle.std.specs.Prelude.{ℕ, ◌&&◌, Bool, false, List, [], ◌∷◌, ◌++◌, map, codes, bytes_eq, Option, None, Some}
 use Rattle.std.specs.List.{list_any}
 use Rattle.apex_text.specs.Fold.{folded}
-use Rattle.apex_schema.specs.declared.schema.Object.{Object}
 use Rattle.apex_schema.specs.Names.{place_of}
 use Rattle.apex_schema.specs.Rules.{reads_as}
 use Rattle.bundle_read.specs.declared.entries.CellEntry.{CellEntry}
@@ -17,9 +16,6 @@ pub record Written : Type 0 where
   pub object : Option ℕ
   pub name : List ℕ
   pub cells : List CellEntry
-
-abbrev pub object_names : List Object → List (List ℕ)
-object_names objects = map (λ (o : Object). folded o.name) objects
 
 -- the rows of an entry; an entry whose object there isn't counts as one row
 abbrev pub rows_of : List ℕ → Option ℕ → List RowEntry → List Written

@@ -8,7 +8,6 @@ mod laws;
 mod made;
 mod row;
 mod seed;
-mod shape;
 mod written;
 
 pub use fault::SeedFault;

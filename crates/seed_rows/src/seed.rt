@@ -15,30 +15,30 @@ use crate::fault::SeedFault;
 use crate::keys::row_keys;
 use crate::made::Made;
 use crate::row::{RowEnd, object_row};
-use crate::shape::{Shape, places_at};
 use crate::written::{WrittenRow, written};
 use apex_num::{NoMemory, Text};
 use apex_schema::{Fault, FaultWord, Object, Row, Schema};
 use bundle_read::SeedEntry;
+use schema_places::SchemaPlaces;
 use std::alloc::Global;
 
 // One row, in view of those before it.
 fn seed_row(
     alloc: Global,
     ground: &Ground,
-    shape: &Shape,
+    places: &SchemaPlaces,
     made: &Made,
     w: &WrittenRow,
 ) -> Result<Row, RowEnd>
-    requires { length shape.now.schema.now.users ≤ 1000000 }
-    ensures { MatchResult result (IsOnlySeedRow shape.now.schema.now (all_as_written ground.now.all.now) made.now.rows.items (as_written w.now)) (NoSeedRow shape.now.schema.now (all_as_written ground.now.all.now) made.now.rows.items (as_written w.now)) }
+    requires { length places.now.schema.now.users ≤ 1000000 }
+    ensures { MatchResult result (IsOnlySeedRow places.now.schema.now (all_as_written ground.now.all.now) made.now.rows.items (as_written w.now)) (NoSeedRow places.now.schema.now (all_as_written ground.now.all.now) made.now.rows.items (as_written w.now)) }
 {
     let Some(n) = w.object else {
         return Err(RowEnd::Word(FaultWord::UnknownObject));
     };
-    match (shape.schema.objects.get(n), places_at(shape, n)) {
-        (Some(object), Some(places)) => {
-            object_row(alloc, ground, shape.schema, made, w, n, object, places)
+    match (places.schema.objects.get(n), places.fields_of(n)) {
+        (Some(object), Some(fields)) => {
+            object_row(alloc, ground, places.schema, made, w, n, object, fields)
         }
         _ => Err(RowEnd::Word(FaultWord::UnknownObject)),
     }
@@ -120,17 +120,17 @@ fn fault_of(
 }
 
 // All rows.
-fn rows(alloc: Global, ground: &Ground, shape: &Shape) -> Result<Vec<Row>, SeedFault>
-    requires { length shape.now.schema.now.users ≤ 1000000 }
-    ensures { MatchResult result (λ rows. spec.IsOnlySeed shape.now.schema.now (all_as_written ground.now.all.now) rows.items) (spec.NoSeed shape.now.schema.now (all_as_written ground.now.all.now)) }
+fn rows(alloc: Global, ground: &Ground, places: &SchemaPlaces) -> Result<Vec<Row>, SeedFault>
+    requires { length places.now.schema.now.users ≤ 1000000 }
+    ensures { MatchResult result (λ rows. spec.IsOnlySeed places.now.schema.now (all_as_written ground.now.all.now) rows.items) (spec.NoSeed places.now.schema.now (all_as_written ground.now.all.now)) }
 {
     let all = ground.all;
     let mut made = Made::new(alloc);
     'rows: for i in 0..all.len() {
         let w = &all[i];
-        match seed_row(alloc, ground, shape, &made, w) {
+        match seed_row(alloc, ground, places, &made, w) {
             Ok(row) => made = made.with(row)?,
-            Err(end) => return Err(fault_of(alloc, shape.schema, &all[..i], w, end)),
+            Err(end) => return Err(fault_of(alloc, places.schema, &all[..i], w, end)),
         }
     }
     Ok(made.rows)
@@ -144,18 +144,17 @@ fn rows(alloc: Global, ground: &Ground, shape: &Shape) -> Result<Vec<Row>, SeedF
 /// fault at row 0, also where it has no rows.
 pub fn seed_rows(
     alloc: Global,
-    schema: &Schema,
+    places: &SchemaPlaces,
     entries: &[SeedEntry],
 ) -> Result<Vec<Row>, SeedFault>
-    requires { length schema.now.users ≤ 1000000 }
-    ensures { MatchResult result (λ rows. spec.IsOnlySeed schema.now (spec.all_written schema.now entries.now) rows.items) (spec.NoSeed schema.now (spec.all_written schema.now entries.now)) }
+    requires { length places.now.schema.now.users ≤ 1000000 }
+    ensures { MatchResult result (λ rows. spec.IsOnlySeed places.now.schema.now (spec.all_written places.now.schema.now entries.now) rows.items) (spec.NoSeed places.now.schema.now (spec.all_written places.now.schema.now entries.now)) }
 {
-    let shape = Shape::of(alloc, schema)?;
-    let all = written(alloc, &shape.objects, entries)?;
+    let all = written(alloc, places, entries)?;
     let keys = row_keys(alloc, all.as_slice())?;
     let ground = Ground {
         all: all.as_slice(),
         keys,
     };
-    rows(alloc, &ground, &shape)
+    rows(alloc, &ground, places)
 }

@@ -1,13 +1,13 @@
 // The rows of a seed as they are written.
 
 ghost use Rattle.std.specs.Prelude.{◌≡◌, ◌++◌, ◌∷◌, [], map, None, Some, IfOk, OnOk};
+ghost use Rattle.schema_places.specs.Names.{object_names};
 ghost use Rattle.seed_rows.specs.Views.{as_written};
 ghost use Rattle.seed_rows.specs.Written as spec;
 
 use apex_num::{NoMemory, Text};
-use apex_schema::Places;
-use apex_text::Name;
 use bundle_read::{CellEntry, SeedEntry};
+use schema_places::SchemaPlaces;
 use std::alloc::Global;
 
 /// A row as it is written.
@@ -52,29 +52,28 @@ fn push_stranger<'a>(all: &mut Vec<WrittenRow<'a>>, entry: &'a SeedEntry) -> Res
 fn push_entry<'a>(
     alloc: Global,
     all: &mut Vec<WrittenRow<'a>>,
-    objects: &Places,
+    places: &SchemaPlaces,
     entry: &'a SeedEntry,
 ) -> Result<(), NoMemory>
-    ensures { OnOk result (map as_written all.new.items ≡ map as_written all.old.items ++ spec.entry_rows objects.now.names.items entry.now) }
+    ensures { OnOk result (map as_written all.new.items ≡ map as_written all.old.items ++ spec.entry_rows (object_names places.now.schema.now.objects) entry.now) }
 {
-    let name = Name::of(alloc, entry.object.bytes())?;
-    match objects.place(&name) {
+    match places.object(alloc, &entry.object)? {
         Some(object) => push_rows(all, object, entry),
         None => push_stranger(all, entry),
     }
 }
 
-/// All rows of these entries, of objects with these names.
+/// All rows of these entries, of the objects of a schema.
 pub fn written<'a>(
     alloc: Global,
-    objects: &Places,
+    places: &SchemaPlaces,
     entries: &'a [SeedEntry],
 ) -> Result<Vec<WrittenRow<'a>>, NoMemory>
-    ensures { IfOk result (λ all. map as_written all.items ≡ spec.written objects.now.names.items entries.now) }
+    ensures { IfOk result (λ all. map as_written all.items ≡ spec.written (object_names places.now.schema.now.objects) entries.now) }
 {
     let mut all = Vec::new(alloc);
     for entry in entries {
-        push_entry(alloc, &mut all, objects, entry)?;
+        push_entry(alloc, &mut all, places, entry)?;
     }
     Ok(all)
 }

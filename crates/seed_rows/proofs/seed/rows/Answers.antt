@@ -8,7 +8,7 @@ use Rattle.seed_rows.proofs.seed.rows.Goals as goal
 
 pub returns-in-Err : goal.returns-in-Err
 returns-in-Err c =
-    let schema = c.args.shape.now.schema.now in
+    let schema = c.args.places.now.schema.now in
     let all = c.args.ground.now.all.now in
     let w = c.index-all-i.result in
     let told : NoSeedRow schema (all_as_written all) c.rows.made.rows.items (as_written w) c.in-Err.end = search rules in
@@ -17,7 +17,7 @@ returns-in-Err c =
 
 pub rows-preserved : goal.rows-preserved
 rows-preserved c =
-    let schema = c.args.shape.now.schema.now in
+    let schema = c.args.places.now.schema.now in
     let all = c.args.ground.now.all.now in
     let w = c.index-all-i.result in
     let told : IsOnlySeedRow schema (all_as_written all) c.rows.made.rows.items (as_written w) c.in-Ok.row = search rules in
@@ -27,4 +27,4 @@ rows-preserved c =
 pub returns : goal.returns
 returns c =
     let all = c.args.ground.now.all.now in
-    subst (λ l. OnlyRows c.args.shape.now.schema.now (all_as_written all) (all_as_written l) c.rows.made.rows.items) (take_all c.rows.i all c.rows-test.false) c.rows.invariant
+    subst (λ l. OnlyRows c.args.places.now.schema.now (all_as_written all) (all_as_written l) c.rows.made.rows.items) (take_all c.rows.i all c.rows-test.false) c.rows.invariant

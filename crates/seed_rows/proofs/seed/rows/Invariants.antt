@@ -4,4 +4,4 @@ use Rattle.seed_rows.proofs.SeedSteps.{OnlyRows}
 use Rattle.seed_rows.proofs.seed.rows.Given as goal
 
 abbrev pub invariant-rows : goal.invariant-rows
-invariant-rows l = OnlyRows l.shape.schema.now (all_as_written l.all) (all_as_written (take l.i l.all)) l.made.rows.items
+invariant-rows l = OnlyRows l.places.schema.now (all_as_written l.all) (all_as_written (take l.i l.all)) l.made.rows.items

@@ -1,0 +1,2 @@
+mod RecordSteps
+mod WorkSteps
