@@ -1,0 +1,5 @@
+pub mod Modifiers
+pub mod Members
+pub mod Keys
+pub mod Lookups
+pub mod Tables
