@@ -1,25 +1,29 @@
 //! Reads units, one line each, with bars between them, each a name, a blank and its text, and prints the types of all
-//! fields, or the first fault of a header or of a field's type, with its byte. A line that begins with `fits ` tells
-//! instead whether the type of the first field of the last class fits that of the second, and the other way round.
-//! There are the objects Account and Invoice__c.
+//! fields, or the first fault of a header or of what a member declares, with its byte. A line that begins with `fits `
+//! tells instead whether the type of the first field of the last class fits that of the second, and the other way round;
+//! one that begins with `find `, a name, and a dot with an x for each parameter tells where the last class has its field
+//! and its method of that name. There are the objects Account and Invoice__c.
 #![tactic(auto)]
 
 mod shown;
+mod walk;
 
 use apex_io::{StdSource, read_all};
 use apex_list::Items;
 use apex_num::Text;
 use apex_schema::Places;
-use apex_syntax::{ClassTree, MemberTree, TypeTree, Unit};
+use apex_syntax::Unit;
 use apex_text::Name;
 use bundle_read::UnitPlan;
-use class_heads::{Classes, class_header, unit_name};
-use shown::add_type;
+use class_heads::Classes;
+use class_members::{MemberTables, MethodKey};
+use shown::{add_member, add_types};
 use static_types::ValueType;
 use std::alloc::{AllocError, Global};
 use std::process::ExitCode;
 use tenant_units::{UnitFault, unit_trees};
-use type_names::{WalkFault, type_of};
+use type_names::WalkFault;
+use walk::{Ground, unit_types};
 
 // The greatest input that is read.
 const MOST_BYTES: usize = 10_000_000;
@@ -42,53 +46,6 @@ fn objects(alloc: Global) -> Result<Places, AllocError> {
     names.push(Name::of(alloc, b"account")?)?;
     names.push(Name::of(alloc, b"invoice__c")?)?;
     Places::of(alloc, names)
-}
-
-fn field_type(member: &MemberTree) -> Option<&TypeTree> {
-    match member {
-        MemberTree::Field(_, _, kind, _, _) => Some(kind),
-        MemberTree::Property(_, _, kind, _) => Some(kind),
-        MemberTree::Method(..) | MemberTree::Constructor(..) => None,
-    }
-}
-
-// The types of the fields of a class.
-fn types_of(
-    alloc: Global,
-    classes: &Classes,
-    tree: &ClassTree,
-) -> Result<Items<ValueType>, WalkFault> {
-    let names = classes.names();
-    let mut types = Items::new(alloc);
-    for member in tree.members.as_slice() {
-        if let Some(kind) = field_type(member) {
-            types.push(type_of(alloc, &names, kind)?)?;
-        }
-    }
-    Ok(types)
-}
-
-fn types_in(
-    alloc: Global,
-    classes: &Classes,
-    unit: usize,
-    tree: &Unit,
-) -> Result<Items<ValueType>, WalkFault> {
-    match tree {
-        Unit::Class(tree) => {
-            class_header(classes, unit, tree)?;
-            types_of(alloc, classes, tree)
-        }
-        Unit::Interface(tree) => {
-            unit_name(classes, unit, &tree.name)?;
-            Ok(Items::new(alloc))
-        }
-        Unit::Trigger(tree) => {
-            unit_name(classes, unit, &tree.name)?;
-            Ok(Items::new(alloc))
-        }
-        Unit::Block(_) => Ok(Items::new(alloc)),
-    }
 }
 
 fn fault_line(alloc: Global, plan: &UnitPlan, fault: &WalkFault) -> Result<String, AllocError> {
@@ -119,45 +76,118 @@ fn fits_line(
     }
 }
 
-// What is told of these units; of the last one alone, whether its types fit, where that is asked.
+// Where the last class has its field and its method of this name.
+fn find_line(
+    alloc: Global,
+    ground: &Ground,
+    class: usize,
+    key: &MethodKey,
+) -> Result<String, AllocError> {
+    let lines = ground.classes.lines();
+    let mut line = String::from_str(alloc, "field ")?;
+    add_member(&mut line, ground.tables.field(lines, class, &key.name))?;
+    line.push_str(" method ")?;
+    add_member(&mut line, ground.tables.method(lines, class, key))?;
+    Ok(line)
+}
+
+// What is asked of units.
+#[derive(Drop)]
+enum Asked {
+    Types,
+    Fits,
+    Find(MethodKey),
+}
+
+// What is told of the last unit.
+fn last_line(
+    alloc: Global,
+    ground: &Ground,
+    class: usize,
+    types: &Items<ValueType>,
+    asked: &Asked,
+) -> Result<Option<String>, AllocError> {
+    match asked {
+        Asked::Types => Ok(None),
+        Asked::Fits => Ok(Some(fits_line(alloc, ground.classes, types)?)),
+        Asked::Find(key) => Ok(Some(find_line(alloc, ground, class, key)?)),
+    }
+}
+
+fn is_class(unit: &Unit) -> bool {
+    match unit {
+        Unit::Class(_) | Unit::Interface(_) => true,
+        Unit::Trigger(_) | Unit::Block(_) => false,
+    }
+}
+
 fn trees_line(
     alloc: Global,
     plans: &[UnitPlan],
     units: &[Unit],
-    asks: bool,
+    asked: &Asked,
 ) -> Result<String, AllocError> {
     let objects = objects(alloc)?;
     let classes = Classes::of(alloc, &objects, units)?;
+    let tables = MemberTables::of(alloc, &classes)?;
+    let ground = Ground {
+        classes: &classes,
+        tables: &tables,
+    };
     let mut line = String::from_str(alloc, "ok")?;
+    let mut class: usize = 0;
     for i in 0..units.len().min(plans.len()) {
-        match types_in(alloc, &classes, i, &units[i]) {
+        match unit_types(alloc, &ground, class, i, &units[i]) {
             Ok(types) => {
-                if asks && i.saturating_add(1) == units.len() {
-                    return fits_line(alloc, &classes, &types);
+                if i.saturating_add(1) == units.len() {
+                    if let Some(last) = last_line(alloc, &ground, class, &types, asked)? {
+                        return Ok(last);
+                    }
                 }
-                for kind in types.as_slice() {
-                    line.push(' ')?;
-                    add_type(&mut line, kind)?;
-                }
+                add_types(&mut line, &types)?;
             }
             Err(fault) => return fault_line(alloc, &plans[i], &fault),
+        }
+        if is_class(&units[i]) {
+            class = class.saturating_add(1);
         }
     }
     Ok(line)
 }
 
-// What is told of a line.
-fn answer(alloc: Global, line: &str) -> Result<String, AllocError> {
-    let (text, asks) = match line.strip_prefix("fits ") {
-        Some(text) => (text, true),
-        None => (line, false),
-    };
+fn units_line(alloc: Global, text: &str, asked: &Asked) -> Result<String, AllocError> {
     let plans = units_of(alloc, text)?;
     match unit_trees(alloc, plans.as_slice()) {
-        Ok(units) => trees_line(alloc, plans.as_slice(), units.as_slice(), asks),
+        Ok(units) => trees_line(alloc, plans.as_slice(), units.as_slice(), asked),
         Err(UnitFault::Wrong(_)) => String::from_str(alloc, "no tree"),
         Err(UnitFault::NoMemory) => Err(AllocError),
     }
+}
+
+// The name and the count of what is looked for, and the units behind them.
+fn found_line(alloc: Global, text: &str) -> Result<String, AllocError> {
+    let Some((name, rest)) = text.split_once(' ') else {
+        return String::from_str(alloc, "no name");
+    };
+    let Some((count, units)) = rest.split_once(' ') else {
+        return String::from_str(alloc, "no count");
+    };
+    let key = MethodKey {
+        name: Name::of(alloc, name.as_bytes())?,
+        count: count.len().saturating_sub(1),
+    };
+    units_line(alloc, units, &Asked::Find(key))
+}
+
+// What is told of a line.
+fn answer(alloc: Global, line: &str) -> Result<String, AllocError> {
+    if let Some(units) = line.strip_prefix("fits ") {
+        return units_line(alloc, units, &Asked::Fits);
+    }
+    if let Some(text) = line.strip_prefix("find ") {
+        return found_line(alloc, text);
+    }
+    units_line(alloc, line, &Asked::Types)
 }
 
 fn main(rt: HostRuntime) -> anyhow::Result<ExitCode> {

@@ -1,6 +1,8 @@
 // Types as they are printed.
 
+use apex_list::Items;
 use builtin_table::ExceptionClass;
+use class_members::Member;
 use static_types::{PlatformType, Primitive, ValueType};
 use std::alloc::AllocError;
 
@@ -42,9 +44,29 @@ fn add_exception(line: &mut String, class: ExceptionClass) -> Result<(), AllocEr
     line.push_str(class.name())
 }
 
-/// Adds a type to a line; objects and classes are printed as their numbers.
+/// Adds a member to a line: the number of its class, and its place there.
+pub fn add_member(line: &mut String, member: Option<Member>) -> Result<(), AllocError> {
+    match member {
+        Some(member) => {
+            add_number(line, "", member.class)?;
+            add_number(line, ".", member.place)
+        }
+        None => line.push_str("none"),
+    }
+}
+
+/// Adds types to a line, each with a blank before it.
+pub fn add_types(line: &mut String, types: &Items<ValueType>) -> Result<(), AllocError> {
+    for kind in types.as_slice() {
+        line.push(' ')?;
+        add_type(line, kind)?;
+    }
+    Ok(())
+}
+
+// A type; objects and classes are printed as their numbers.
 #[cycle(add_type)]
-pub fn add_type(line: &mut String, kind: &ValueType) -> Result<(), AllocError> {
+fn add_type(line: &mut String, kind: &ValueType) -> Result<(), AllocError> {
     match kind {
         ValueType::Primitive(p) => line.push_str(primitive(*p)),
         ValueType::List(item) => {

@@ -1,0 +1,4 @@
+pub mod Keys
+pub mod Duplicates
+pub mod SeenMembers
+pub mod Declarations
