@@ -10,6 +10,7 @@ use member_walk::{
 use method_overrides::override_fault;
 use static_types::ValueType;
 use std::alloc::Global;
+use trigger_headers::trigger_header;
 use type_names::WalkFault;
 
 /// What is known of all classes.
@@ -102,7 +103,7 @@ fn interface_faults(
     Ok(())
 }
 
-/// The types of the fields that a unit declares, or its first fault. The class or interface has this number.
+/// The types of the fields that a unit declares, or the object of a trigger, or its first fault. The class or interface has this number.
 pub fn unit_types(
     alloc: Global,
     ground: &Ground,
@@ -117,8 +118,10 @@ pub fn unit_types(
             Ok(Items::new(alloc))
         }
         Unit::Trigger(tree) => {
-            unit_name(ground.classes, unit, &tree.name)?;
-            Ok(Items::new(alloc))
+            let object = trigger_header(ground.classes, unit, tree)?;
+            let mut types = Items::new(alloc);
+            types.push(ValueType::Record(object))?;
+            Ok(types)
         }
         Unit::Block(_) => Ok(Items::new(alloc)),
     }

@@ -22,8 +22,9 @@ pub enum TypeHead {
     Class(usize),
 }
 
-// A name that stands alone: a built-in type, an object, or a class, in this order.
-fn alone(names: &TypeNames, name: &Name) -> Option<TypeHead>
+/// What a name says of a type where it stands alone: it is that of a built-in type, of an object, or of a class or an
+/// interface, looked for in this order.
+pub fn type_head(names: &TypeNames, name: &Name) -> Option<TypeHead>
     ensures { result ≡ spec.alone (spec.known names.now) name.now }
 {
     if let Some(named) = type_name(name) {
@@ -61,7 +62,7 @@ fn named(names: &TypeNames, name: &Name, behind: &Option<Word>) -> Option<TypeHe
     ensures { result ≡ spec.named (spec.known names.now) name.now behind.now }
 {
     match behind {
-        None => alone(names, name),
+        None => type_head(names, name),
         Some(word) => member(name, &word.name),
     }
 }

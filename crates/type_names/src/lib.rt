@@ -6,5 +6,5 @@ mod head;
 mod names;
 
 pub use fault::{TreeFault, WalkFault};
-pub use head::TypeHead;
+pub use head::{TypeHead, type_head};
 pub use names::{PlacedType, TypeNames, named_type, type_of};
