@@ -1,8 +1,8 @@
 //! Reads units, one line each, with bars between them, each a name, a blank and its text, and prints the types of all
-//! fields and the objects of triggers, or the first fault of a header or of what a member declares, with its byte. A line that begins with `fits `
-//! tells instead whether the type of the first field of the last class fits that of the second, and the other way round;
-//! one that begins with `find `, a name, and a dot with an x for each parameter tells where the last class has its field
-//! and its method of that name. There are the objects Account and Invoice__c.
+//! fields and the objects of triggers, or the first fault of a header or of what a member declares, with its byte. A
+//! line that begins with `fits ` tells instead whether the type of the first field of the last class fits that of the
+//! second, and the other way round; one that begins with `find `, a name, and a dot with an x for each parameter tells
+//! where the last class has its field and its method of that name. There are the objects Account and Invoice__c.
 #![tactic(auto)]
 
 mod shown;
