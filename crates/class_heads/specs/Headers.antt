@@ -10,7 +10,6 @@ use Rattle.apex_syntax.specs.declared.word.Word.{Word}
 use Rattle.static_types.specs.declared.kind.ValueType.{ValueType}
 use Rattle.static_types.specs.declared.kind.ValueType.TheOpen.{ValueType-F}
 use Rattle.static_types.specs.declared.kind.ValueType.TheViews.{out-ValueType}
-use Rattle.static_types.specs.declared.named.TypeName.{TypeName}
 use Rattle.static_types.specs.Names.{type_names, said}
 use Rattle.type_names.specs.TypeTrees.{Known, named_type}
 use Rattle.type_names.specs.Walks.{Walk, Gives, wrong, onward}

@@ -1,5 +1,5 @@
 -- What stands in front of the members of classes and interfaces (docs/language.md, "Classes").
-use Rattle.std.specs.Prelude.{ℕ, ◌+◌, ◌||◌, Bool, true, false, List, [], ◌∷◌, ◌++◌, flat_map, filter_map, slice_get, Option, None, Some}
+use Rattle.std.specs.Prelude.{ℕ, ◌+◌, Bool, true, false, List, [], ◌∷◌, ◌++◌, flat_map, filter_map, slice_get, Option, None, Some}
 use Rattle.std.specs.List.{list_any}
 use Rattle.apex_schema.specs.declared.schema.Mode.{Mode}
 use Rattle.apex_schema.specs.declared.schema.Mode.TheVariants as M

@@ -1,5 +1,5 @@
 -- Ancestors, and when a type fits another (docs/language.md, "Types").
-use Rattle.std.specs.Prelude.{ℕ, zero, suc, ◌&&◌, ◌||◌, not, eqb, Bool, true, false, List, [], ◌∷◌, slice_get, Option, None, Some}
+use Rattle.std.specs.Prelude.{ℕ, zero, suc, ◌||◌, eqb, Bool, true, false, List, [], ◌∷◌, slice_get, Option, None, Some}
 use Rattle.std.specs.List.{list_any}
 use Rattle.static_types.specs.declared.kind.Primitive.{Primitive}
 use Rattle.static_types.specs.declared.kind.Primitive.TheVariants as Primitives

@@ -1,7 +1,6 @@
 // The classes of a tenant.
 
-ghost use Rattle.std.specs.Prelude.{◌≡◌, map, slice_get, IfOk};
-ghost use Rattle.std.specs.Option.{option_copied};
+ghost use Rattle.std.specs.Prelude.{◌≡◌, map, IfOk};
 ghost use Rattle.type_names.specs.TypeTrees.{known};
 ghost use Rattle.class_heads.specs.Heads as spec;
 

@@ -1,7 +1,6 @@
 // The headers of units.
 
 ghost use Rattle.std.specs.Prelude.{◌≡◌, slice_get};
-ghost use Rattle.std.specs.Option.{option_copied};
 ghost use Rattle.static_types.specs.declared.kind.ValueType.TheViews.{out-ValueType};
 ghost use Rattle.type_names.specs.TypeTrees.{known};
 ghost use Rattle.type_names.specs.Walks.{Tells};
@@ -9,7 +8,7 @@ ghost use Rattle.apex_schema.specs.Names.{has};
 ghost use Rattle.class_heads.specs.Headers as spec;
 
 use crate::classes::Classes;
-use crate::head::{ClassHead, Parent};
+use crate::head::Parent;
 use crate::line::ClassHeads;
 use apex_schema::{FaultWord, Places};
 use apex_syntax::{ClassTree, Word};

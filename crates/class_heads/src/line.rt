@@ -1,8 +1,7 @@
 // Classes with their ancestors and interfaces.
 
-ghost use Rattle.std.specs.Prelude.{◌≡◌, ◌&&◌, ◌||◌, ◌∷◌, eqb, ℕ, slice_get, IfOk, OnOk};
+ghost use Rattle.std.specs.Prelude.{◌≡◌, ◌&&◌, ◌||◌, ◌∷◌, eqb, ℕ, IfOk, OnOk};
 ghost use Rattle.std.specs.List.{list_any};
-ghost use Rattle.std.specs.Option.{option_copied};
 ghost use Rattle.indexmap.specs.IndexSet.{contains};
 ghost use Rattle.static_types.specs.declared.kind.ValueType.TheViews.{out-ValueType};
 ghost use Rattle.class_heads.specs.Lines as spec;

@@ -1,6 +1,6 @@
 // The names of units and classes.
 
-ghost use Rattle.std.specs.Prelude.{◌≡◌, map, flat_map, IfOk};
+ghost use Rattle.std.specs.Prelude.{◌≡◌, map, IfOk};
 ghost use Rattle.class_heads.specs.Heads as spec;
 
 use apex_list::Items;

@@ -1,5 +1,5 @@
 -- Where a member is found (docs/language.md, "Members").
-use Rattle.std.specs.Prelude.{ℕ, List, [], ◌∷◌, length, map, option_map, slice_get, Option, None, Some}
+use Rattle.std.specs.Prelude.{ℕ, List, [], ◌∷◌, length, map, slice_get, Option, None, Some}
 use Rattle.apex_schema.specs.Names.{place_of}
 use Rattle.class_heads.specs.declared.head.ClassHead.{ClassHead}
 use Rattle.class_heads.specs.Lines.{line_of}

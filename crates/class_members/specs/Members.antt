@@ -1,5 +1,5 @@
 -- Members as others see them (docs/language.md, "Members").
-use Rattle.std.specs.Prelude.{ℕ, Bool, true, false, List, [], ◌∷◌, map, flat_map, Option, None, Some}
+use Rattle.std.specs.Prelude.{Bool, true, false, List, [], ◌∷◌, map, flat_map, Option, None, Some}
 use Rattle.apex_syntax.specs.declared.expr.TypeTree.{TypeTree}
 use Rattle.apex_syntax.specs.declared.unit.ClassTree.{ClassTree}
 use Rattle.apex_syntax.specs.declared.unit.InterfaceTree.{InterfaceTree}

@@ -1,6 +1,6 @@
 // What members declare.
 
-ghost use Rattle.std.specs.Prelude.{◌≡◌, []};
+ghost use Rattle.std.specs.Prelude.{[]};
 ghost use Rattle.type_names.specs.TypeTrees.{known};
 ghost use Rattle.type_names.specs.Walks.{Comes, Tells};
 ghost use Rattle.member_walk.specs.Declarations as spec;

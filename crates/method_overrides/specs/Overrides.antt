@@ -1,5 +1,5 @@
 -- When a method overrides as it may (docs/language.md, "Members").
-use Rattle.std.specs.Prelude.{ℕ, ◌&&◌, not, Bool, true, false, cond, List, length, slice_get, Option, None, Some}
+use Rattle.std.specs.Prelude.{ℕ, ◌&&◌, not, Bool, false, cond, List, length, slice_get, Option, None, Some}
 use Rattle.apex_schema.specs.declared.reply.FaultWord.TheVariants.{BadParent}
 use Rattle.class_heads.specs.declared.head.ClassHead.{ClassHead}
 use Rattle.class_heads.specs.Headers.{Nothing}

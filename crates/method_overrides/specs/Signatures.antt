@@ -1,5 +1,5 @@
 -- When two methods have the same types (docs/language.md, "Members"); a type that has a fault is equal to any.
-use Rattle.std.specs.Prelude.{◌&&◌, Bool, true, false, List, [], ◌∷◌, Option, None, Some}
+use Rattle.std.specs.Prelude.{◌&&◌, Bool, true, false, List, [], ◌∷◌, Option, Some}
 use Rattle.static_types.specs.declared.kind.ValueType.{ValueType}
 use Rattle.static_types.specs.Types.{same}
 use Rattle.class_members.specs.declared.member.MethodHead.{MethodHead}

@@ -1,6 +1,6 @@
 // Methods that override others.
 
-ghost use Rattle.std.specs.Prelude.{◌≡◌, ◌∷◌, map, slice_get};
+ghost use Rattle.std.specs.Prelude.{◌≡◌, ◌∷◌, slice_get};
 ghost use Rattle.std.specs.Option.{option_copied};
 ghost use Rattle.class_heads.specs.Lines.{ancestors, parent_at};
 ghost use Rattle.class_members.specs.Lookups.{first_in, in_table};

@@ -1,5 +1,5 @@
 -- The type of a tree, by the types in it.
-use Rattle.std.proofs.Common.{◌≡◌, ℕ, List, map, refl, sym, ap, ◌∙◌}
+use Rattle.std.proofs.Common.{◌≡◌, List, map, sym, ap, ◌∙◌}
 use Rattle.apex_syntax.specs.declared.expr.TypeTree.{TypeTree}
 use Rattle.apex_syntax.specs.declared.expr.TypeTree.TheFolds.{fold-roll-TypeTree, map-TypeTree}
 use Rattle.apex_syntax.specs.declared.expr.TypeTree.TheViews.{out-TypeTree, roll-out-TypeTree}

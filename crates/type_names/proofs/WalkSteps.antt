@@ -1,5 +1,5 @@
 -- Steps of walks: how what is done so far and what is left come to the whole.
-use Rattle.std.proofs.Common.{◌≡◌, ◌<◌, ◌+◌, ℕ, List, [], ◌∷◌, ◌++◌, map, drop, length, refl, sym, ap, ◌∙◌}
+use Rattle.std.proofs.Common.{◌≡◌, List, [], ◌∷◌, ◌++◌, refl, ap}
 use Rattle.type_names.specs.Walks.{Walk, Gives, Wrong, onward, all}
 
 -- the parts that are done, and those that are left

@@ -12,7 +12,6 @@ use Rattle.static_types.specs.declared.kind.ValueType.{ValueType}
 use Rattle.static_types.specs.declared.kind.ValueType.TheOpen.{ValueType-F}
 use Rattle.static_types.specs.declared.kind.ValueType.TheVariants as V
 use Rattle.static_types.specs.declared.kind.ValueType.TheViews.{out-ValueType}
-use Rattle.static_types.specs.declared.named.TypeName.{TypeName}
 use Rattle.static_types.specs.declared.named.TypeName.TheVariants as T
 use Rattle.static_types.specs.Names.{type_names, platform_names, said as says}
 use Rattle.type_names.specs.declared.head.TypeHead.{TypeHead}

@@ -1,4 +1,4 @@
-use Rattle.std.proofs.Common.{rules, ◌≡◌, ◌≢◌, length, sym}
+use Rattle.std.proofs.Common.{rules, ◌≢◌, length, sym}
 use Rattle.method_overrides.proofs.ParamSteps.{other_length}
 use Rattle.method_overrides.proofs.signature.same_params.Goals as goal
 

@@ -1,4 +1,4 @@
-use Rattle.std.proofs.Common.{◌≡◌, drop, length}
+use Rattle.std.proofs.Common.{◌≡◌, drop}
 use Rattle.method_overrides.specs.Signatures.{same_params}
 use Rattle.method_overrides.proofs.signature.same_params.Given as goal
 
