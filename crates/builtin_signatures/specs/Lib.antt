@@ -1,0 +1,4 @@
+pub mod Dues
+pub mod Answers
+pub mod Statics
+pub mod Laws
