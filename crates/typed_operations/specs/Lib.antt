@@ -1,0 +1,5 @@
+pub mod Chains
+pub mod Prefixes
+pub mod Choices
+pub mod Casts
+pub mod Assignments

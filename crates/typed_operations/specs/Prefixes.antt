@@ -1,0 +1,60 @@
+-- Prefix operators, `++` and `--` (docs/language.md, "Operators").
+use Rattle.std.specs.Prelude.{ℕ, List, Option, None, Some}
+use Rattle.apex_schema.specs.declared.reply.FaultWord.TheVariants.{WrongType, NotWritable}
+use Rattle.class_heads.specs.declared.head.ClassHead.{ClassHead}
+use Rattle.class_heads.specs.Headers.{Nothing as Done}
+use Rattle.operator_types.specs.declared.sort.Sort.{Sort}
+use Rattle.operator_types.specs.declared.sort.Sort.TheVariants as S
+use Rattle.operator_types.specs.Sorts.{sort_of, number_of}
+use Rattle.static_types.specs.declared.kind.Primitive.TheVariants as P
+use Rattle.static_types.specs.declared.kind.ValueType.TheVariants as V
+use Rattle.type_names.specs.Walks.{Walk, Gives, wrong, onward}
+use Rattle.typed_trees.specs.declared.expr.Number.{Number}
+use Rattle.typed_trees.specs.declared.expr.Number.TheVariants as N
+use Rattle.typed_trees.specs.declared.expr.StepKind.{StepKind}
+use Rattle.typed_trees.specs.declared.expr.TypedExpr.TheVariants.{Not, Minus, Step}
+use Rattle.typed_values.specs.declared.typed.Kind.{Kind}
+use Rattle.typed_values.specs.declared.typed.Kind.TheVariants.{Null, Is}
+use Rattle.typed_values.specs.declared.typed.Role.{Role}
+use Rattle.typed_values.specs.declared.typed.Role.TheVariants.{Plain, Variable}
+use Rattle.typed_values.specs.declared.typed.Typed.{Typed}
+use Rattle.typed_values.specs.Fits.{condition}
+
+abbrev pub negated : List ClassHead → ℕ → Typed → Walk Typed
+negated heads at value =
+    onward (condition heads value) (λ tree. Gives (record { at = at; kind = Is (V.Primitive P.Boolean); role = Plain; tree = Not tree }))
+
+-- `null` counts as an Integer
+abbrev pub number_sort : Sort → Option Number
+number_sort S.Null = Some N.Integer
+number_sort S.Faulty = Some N.Integer
+number_sort (S.Primitive p) = number_of p
+number_sort _ = None
+
+abbrev pub number_or : Option Number → ℕ → Walk Number
+number_or (Some n) at = Gives n
+number_or None at = wrong WrongType at
+
+abbrev pub number : Typed → Walk Number
+number value = number_or (number_sort (sort_of value.kind)) value.at
+
+abbrev pub settled : Kind → Kind
+settled Null = Is (V.Primitive P.Integer)
+settled kind = kind
+
+abbrev pub opposite : ℕ → Typed → Walk Typed
+opposite at value =
+    onward (number value) (λ n. Gives (record { at = at; kind = settled value.kind; role = Plain; tree = Minus n value.tree }))
+
+-- only a variable may be assigned to
+abbrev pub may_write : Role → ℕ → Walk Done
+may_write Variable at = Gives tt
+may_write _ at = wrong NotWritable at
+
+abbrev pub writable : Typed → Walk Done
+writable target = may_write target.role target.at
+
+-- that it is no number is told before that it is no variable
+abbrev pub stepped : ℕ → StepKind → Typed → Walk Typed
+stepped at step target =
+    onward (number target) (λ n. onward (writable target) (λ _. Gives (record { at = at; kind = target.kind; role = Plain; tree = Step step n target.tree })))

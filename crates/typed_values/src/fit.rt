@@ -1,0 +1,136 @@
+// What fits where.
+
+ghost use Rattle.std.specs.Prelude.{◌≡◌, IfOk};
+ghost use Rattle.static_types.specs.declared.kind.ValueType.TheViews.{out-ValueType};
+ghost use Rattle.type_names.specs.Walks.{Comes};
+ghost use Rattle.typed_values.specs.Fits as spec;
+
+use apex_list::Boxed;
+use apex_num::NoMemory;
+use apex_schema::FaultWord;
+use class_heads::ClassHeads;
+use static_types::{Primitive, ValueType};
+use std::alloc::Global;
+use type_names::{TreeFault, WalkFault};
+use typed_trees::{Conversion, TypedExpr};
+
+use crate::typed::{Kind, Role, Typed};
+
+// How a primitive becomes another one, where it does.
+fn primitive_conversion(from: Primitive, to: Primitive) -> Option<Conversion>
+    ensures { result ≡ spec.primitive_conversion from to }
+{
+    if from == to {
+        return Some(Conversion::Same);
+    }
+    match (from, to) {
+        (Primitive::Integer, Primitive::Long) => Some(Conversion::ToLong),
+        (Primitive::Integer, Primitive::Decimal) => Some(Conversion::ToDecimal),
+        (Primitive::Long, Primitive::Decimal) => Some(Conversion::ToDecimal),
+        (Primitive::String, Primitive::Id) => Some(Conversion::ToId),
+        (Primitive::Id, Primitive::String) => Some(Conversion::ToText),
+        _ => None,
+    }
+}
+
+fn same_where(fits: bool) -> Option<Conversion>
+    ensures { result ≡ spec.same_where fits }
+{
+    if fits { Some(Conversion::Same) } else { None }
+}
+
+fn type_conversion(lines: &ClassHeads, from: &ValueType, to: &ValueType) -> Option<Conversion>
+    ensures { result ≡ spec.type_conversion lines.now.heads from.now to.now }
+{
+    match (from, to) {
+        (ValueType::Primitive(p), ValueType::Primitive(q)) => primitive_conversion(*p, *q),
+        _ => same_where(lines.fits(from, to)),
+    }
+}
+
+/// How a value of what is known becomes one of this type, or `None` where it doesn't fit: types are equal, Integer
+/// becomes Long and both become Decimal, String and Id become one another, a class becomes an ancestor or an interface,
+/// an exception `Exception`; `null` becomes everything.
+pub fn conversion(lines: &ClassHeads, from: &Kind, to: &ValueType) -> Option<Conversion>
+    ensures { result ≡ spec.conversion lines.now.heads from.now to.now }
+{
+    match from {
+        Kind::Nothing => None,
+        Kind::Null | Kind::Faulty => Some(Conversion::Same),
+        Kind::Is(kind) => type_conversion(lines, kind, to),
+    }
+}
+
+/// A tree whose value is converted so; no tree is made where it stays the same.
+pub fn converted(
+    alloc: Global,
+    how: Conversion,
+    tree: Boxed<TypedExpr>,
+) -> Result<Boxed<TypedExpr>, NoMemory>
+    ensures { IfOk result (λ t. t ≡ spec.converted how tree) }
+{
+    match how {
+        Conversion::Same => Ok(tree),
+        how => Boxed::new(alloc, TypedExpr::Convert(how, tree)),
+    }
+}
+
+/// The tree of a value that has to fit a type, with its conversion; `WrongType` at the value where it doesn't.
+pub fn fitted(
+    alloc: Global,
+    lines: &ClassHeads,
+    value: Typed,
+    to: &ValueType,
+) -> Result<Boxed<TypedExpr>, WalkFault>
+    ensures { Comes (spec.fitted lines.now.heads value to.now) result }
+{
+    match conversion(lines, &value.kind, to) {
+        Some(how) => Ok(converted(alloc, how, value.tree)?),
+        None => Err(TreeFault::new(FaultWord::WrongType, value.at).into()),
+    }
+}
+
+/// The tree of a condition: Boolean, or `null`.
+pub fn condition(alloc: Global, lines: &ClassHeads, value: Typed) -> Result<Boxed<TypedExpr>, WalkFault>
+    ensures { Comes (spec.condition lines.now.heads value) result }
+{
+    fitted(alloc, lines, value, &ValueType::Primitive(Primitive::Boolean))
+}
+
+// Whether it is a list of the records of this object.
+fn lists_records(kind: &ValueType, object: usize) -> bool
+    ensures { result ≡ spec.lists_records (out-ValueType kind.now) object }
+{
+    match kind {
+        ValueType::List(item) => match item.get() {
+            ValueType::Record(n) => *n == object,
+            _ => false,
+        },
+        _ => false,
+    }
+}
+
+fn gives_record(value: &Typed, to: &ValueType) -> bool
+    ensures { result ≡ spec.gives_record value.now (out-ValueType to.now) }
+{
+    match (value.role, &value.kind, to) {
+        (Role::Query, Kind::Is(kind), ValueType::Record(object)) => lists_records(kind, *object),
+        _ => false,
+    }
+}
+
+/// The tree of a value that is stored in a variable of a type or returned as one: as `fitted`, and a query itself may
+/// stand for its only record.
+pub fn stored(
+    alloc: Global,
+    lines: &ClassHeads,
+    value: Typed,
+    to: &ValueType,
+) -> Result<Boxed<TypedExpr>, WalkFault>
+    ensures { Comes (spec.stored lines.now.heads value to.now) result }
+{
+    if gives_record(&value, to) {
+        return Ok(converted(alloc, Conversion::ToRecord, value.tree)?);
+    }
+    fitted(alloc, lines, value, to)
+}

@@ -1,0 +1,8 @@
+//! Expressions whose types are known, and how a value becomes one of the type that its place needs.
+#![tactic(auto)]
+
+mod fit;
+mod typed;
+
+pub use fit::{condition, conversion, converted, fitted, stored};
+pub use typed::{Kind, Role, Space, Typed};
