@@ -21,8 +21,11 @@ use Rattle.typed_values.specs.declared.typed.Role.{Role}
 use Rattle.typed_values.specs.declared.typed.Role.TheVariants.{Plain, Query}
 use Rattle.typed_values.specs.declared.typed.Typed.{Typed}
 
+abbrev pub typed : ℕ → Kind → Role → TypedExpr → Typed
+typed at kind role tree = record { at = at; kind = kind; role = role; tree = tree }
+
 abbrev pub plain : ℕ → Kind → TypedExpr → Typed
-plain at kind tree = record { at = at; kind = kind; role = Plain; tree = tree }
+plain at kind tree = typed at kind Plain tree
 
 -- along Integer, Long and Decimal, and between String and Id
 abbrev pub widening : Primitive → Primitive → Option Conversion

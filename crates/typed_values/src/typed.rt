@@ -64,6 +64,25 @@ pub struct Typed {
 }
 
 impl Typed {
+    /// An expression of these parts.
+    pub fn of(
+        alloc: Global,
+        at: usize,
+        kind: Kind,
+        role: Role,
+        tree: TypedExpr,
+    ) -> Result<Typed, NoMemory>
+        ensures { IfOk result (λ t. t ≡ spec.typed at kind role tree) }
+    {
+        let tree = Boxed::new(alloc, tree)?;
+        Ok(Typed {
+            at,
+            kind,
+            role,
+            tree,
+        })
+    }
+
     /// An expression that is read for its value alone.
     pub fn plain(
         alloc: Global,
@@ -73,12 +92,6 @@ impl Typed {
     ) -> Result<Typed, NoMemory>
         ensures { IfOk result (λ t. t ≡ spec.plain at kind tree) }
     {
-        let tree = Boxed::new(alloc, tree)?;
-        Ok(Typed {
-            at,
-            kind,
-            role: Role::Plain,
-            tree,
-        })
+        Typed::of(alloc, at, kind, Role::Plain, tree)
     }
 }

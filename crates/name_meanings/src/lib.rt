@@ -1,0 +1,17 @@
+//! What names mean in code: locals, fields, classes and what the platform has, and what stands behind a dot.
+#![tactic(auto)]
+
+mod access;
+mod field;
+mod name;
+mod part;
+mod record;
+mod setting;
+mod space;
+mod variable;
+
+pub use access::member_of;
+pub use field::FieldUse;
+pub use name::{name_in, super_in, this_in};
+pub use part::with_part;
+pub use setting::Setting;
