@@ -87,7 +87,10 @@ fn calculated(op: Arithmetic, a: Measure, b: Measure) -> Judged
     ensures { result ≡ spec.calculated op a b }
 {
     match (a, b) {
-        (Measure::Faulty, _) | (_, Measure::Faulty) => unknown(TypedOp::Arithmetic(op, Number::Integer)),
+        (Measure::Faulty, _) | (_, Measure::Faulty) => unknown(TypedOp::Arithmetic(
+            op,
+            Number::Integer,
+        )),
         (Measure::Null, Measure::Null) => {
             in_numbers(op, Conversion::Same, Number::Integer, Conversion::Same)
         }
@@ -234,9 +237,10 @@ fn scaled(op: Order, a: Scale, b: Scale) -> Judged
     ensures { result ≡ spec.scaled op a b }
 {
     match (a, b) {
-        (Scale::Open, _) | (_, Scale::Open) | (Scale::Date, Scale::Date) | (Scale::Datetime, Scale::Datetime) => {
-            plain(TypedOp::Order(op), Primitive::Boolean)
-        }
+        (Scale::Open, _)
+        | (_, Scale::Open)
+        | (Scale::Date, Scale::Date)
+        | (Scale::Datetime, Scale::Datetime) => { plain(TypedOp::Order(op), Primitive::Boolean) }
         (Scale::Number(m), Scale::Number(n)) => {
             let w = wider(m, n);
             Judged::Fits(Fit {

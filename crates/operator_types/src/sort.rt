@@ -28,7 +28,8 @@ pub fn sort_of_type(kind: &ValueType) -> Sort
 {
     match kind {
         ValueType::Primitive(p) => Sort::Primitive(*p),
-        ValueType::List(_) | ValueType::Set(_) | ValueType::Map(..) | ValueType::Record(_) => Sort::Content,
+        ValueType::List(_) | ValueType::Set(_) | ValueType::Map(..) | ValueType::Record(_) =>
+            Sort::Content,
         ValueType::Class(_)
         | ValueType::AnyException
         | ValueType::Exception(_)

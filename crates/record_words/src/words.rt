@@ -22,15 +22,13 @@ pub struct RecordWords<'a> {
 fn put(map: &mut IndexMap<RecordKey, RecordWord>, entry: &WordEntry) -> Result<(), NoMemory>
     ensures { OnOk result ((k : TheKey) → get key_eq map.new k ≡ cond (key_eq entry.now.key k) (Some entry.now.word) (get key_eq map.old k)) }
 {
-    map.insert(entry.key.copy()?, entry.word).map_err(AllocError::from)?;
+    map.insert(entry.key.copy()?, entry.word)
+        .map_err(AllocError::from)?;
     Ok(())
 }
 
 // From the last to the first, so that of two equal keys the first one counts.
-fn map_of(
-    alloc: Global,
-    entries: &[WordEntry],
-) -> Result<IndexMap<RecordKey, RecordWord>, NoMemory>
+fn map_of(alloc: Global, entries: &[WordEntry]) -> Result<IndexMap<RecordKey, RecordWord>, NoMemory>
     ensures { IfOk result (λ m. (k : TheKey) → get key_eq m k ≡ word_in entries.now k) }
 {
     let mut map = IndexMap::new(alloc);

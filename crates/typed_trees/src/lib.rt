@@ -4,6 +4,7 @@
 mod expr;
 
 pub use expr::{
-    Arithmetic, Assignment, CollectionKind, Constant, Constructor, Conversion, Number, Order, StepKind,
-    TriggerVariable, TypedExpr, TypedItem, TypedNew, TypedOp, TypedOperand, TypedPair, TypedPart,
+    Arithmetic, Assignment, CollectionKind, Constant, Constructor, Conversion, Number, Order,
+    StepKind, TriggerVariable, TypedExpr, TypedItem, TypedNew, TypedOp, TypedOperand, TypedPair,
+    TypedPart,
 };

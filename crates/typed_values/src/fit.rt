@@ -5,6 +5,7 @@ ghost use Rattle.static_types.specs.declared.kind.ValueType.TheViews.{out-ValueT
 ghost use Rattle.type_names.specs.Walks.{Comes};
 ghost use Rattle.typed_values.specs.Fits as spec;
 
+use crate::typed::{Kind, Role, Typed};
 use apex_list::Boxed;
 use apex_num::NoMemory;
 use apex_schema::FaultWord;
@@ -13,8 +14,6 @@ use static_types::{Primitive, ValueType};
 use std::alloc::Global;
 use type_names::{TreeFault, WalkFault};
 use typed_trees::{Conversion, TypedExpr};
-
-use crate::typed::{Kind, Role, Typed};
 
 // How a primitive becomes another one, where it does.
 fn primitive_conversion(from: Primitive, to: Primitive) -> Option<Conversion>
@@ -91,10 +90,19 @@ pub fn fitted(
 }
 
 /// The tree of a condition: Boolean, or `null`.
-pub fn condition(alloc: Global, lines: &ClassHeads, value: Typed) -> Result<Boxed<TypedExpr>, WalkFault>
+pub fn condition(
+    alloc: Global,
+    lines: &ClassHeads,
+    value: Typed,
+) -> Result<Boxed<TypedExpr>, WalkFault>
     ensures { Comes (spec.condition lines.now.heads value) result }
 {
-    fitted(alloc, lines, value, &ValueType::Primitive(Primitive::Boolean))
+    fitted(
+        alloc,
+        lines,
+        value,
+        &ValueType::Primitive(Primitive::Boolean),
+    )
 }
 
 // Whether it is a list of the records of this object.

@@ -84,12 +84,7 @@ impl Typed {
     }
 
     /// An expression that is read for its value alone.
-    pub fn plain(
-        alloc: Global,
-        at: usize,
-        kind: Kind,
-        tree: TypedExpr,
-    ) -> Result<Typed, NoMemory>
+    pub fn plain(alloc: Global, at: usize, kind: Kind, tree: TypedExpr) -> Result<Typed, NoMemory>
         ensures { IfOk result (λ t. t ≡ spec.plain at kind tree) }
     {
         Typed::of(alloc, at, kind, Role::Plain, tree)

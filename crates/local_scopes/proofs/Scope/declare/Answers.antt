@@ -6,5 +6,5 @@ use Rattle.local_scopes.proofs.Scope.declare.Goals as goal
 pub returns-clause-ok : goal.returns-clause-ok
 returns-clause-ok c =
     let last : insert_entry bytes_eq c.args.self.now c.args.name c.args.kind ≡ c.args.self.now ++ (c.args.name, c.args.kind) ∷ [] =
-        insert_entry-absent bytes_eq c.args.name c.args.kind c.args.self.now ((Missing-position (bytes_eq c.args.name) c.args.self.now c.requires).absent) in
+    insert_entry-absent bytes_eq c.args.name c.args.kind c.args.self.now ((Missing-position (bytes_eq c.args.name) c.args.self.now c.requires).absent) in
     search rules

@@ -1,0 +1,4 @@
+pub mod MethodNamings
+pub mod MethodUses
+pub mod BuiltinUses
+pub mod Callees

@@ -1,0 +1,12 @@
+//! Which method a call means: one of a class, or a built-in one.
+#![tactic(auto)]
+
+mod builtin;
+mod callee;
+mod found;
+mod named;
+
+pub use builtin::BuiltinUse;
+pub use callee::{Callee, called_alone, called_on};
+pub use found::MethodUse;
+pub use named::MethodNames;
