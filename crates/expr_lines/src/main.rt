@@ -1,6 +1,7 @@
 //! Reads classes and triggers, one line each, with ` | ` between them, each a name, a blank and its text, and checks the
 //! statements of the last body of the last one: it prints the type of each expression, and behind `=` its tree where the
-//! line begins with `tree `, or the first fault, with its word and its byte. Calls, `new`, queries, literals with a
+//! line begins with `tree `, or the first fault, with its word and its byte. Where the line begins with `call `, each
+//! statement is a call, and what it means is printed. Otherwise calls, `new`, queries, literals with a
 //! suffix and other statements than declarations and expressions aren't walked. There are the objects Account,
 //! Invoice__c and Line__c.
 #![tactic(auto)]
@@ -18,13 +19,14 @@ use apex_text::Name;
 use bundle_read::{BundleFault, UnitPlan, read_bundle};
 use class_heads::Classes;
 use class_members::MemberTables;
+use method_calls::MethodNames;
 use record_words::RecordWords;
 use std::alloc::{AllocError, Global};
 use std::process::ExitCode;
 use tenant_schema::deploy_schema;
 use tenant_units::{UnitFault, unit_trees};
 use type_names::WalkFault;
-use walk::{Ground, Stop, body_line};
+use walk::{Asked, Ground, Stop, body_line};
 
 // The greatest input that is read.
 const MOST_BYTES: usize = 10_000_000;
@@ -86,20 +88,22 @@ fn trees_line(
     alloc: Global,
     schema: &Schema,
     units: &[Unit],
-    trees: bool,
+    asked: Asked,
 ) -> Result<String, AllocError> {
     let objects = object_places(alloc, schema)?;
     let words = RecordWords::of(alloc, schema)?;
     let classes = Classes::of(alloc, &objects, units)?;
     let members = MemberTables::of(alloc, &classes)?;
+    let methods = MethodNames::of(alloc, &members)?;
     let mut class: usize = 0;
     for i in 0..units.len() {
         if i.saturating_add(1) == units.len() {
             let ground = Ground {
                 classes: &classes,
                 members: &members,
+                methods: &methods,
                 words: &words,
-                trees,
+                asked,
             };
             return match body_line(alloc, &ground, class, &units[i]) {
                 Ok(line) => Ok(line),
@@ -113,15 +117,22 @@ fn trees_line(
     String::from_str(alloc, "no unit")
 }
 
+fn asked_of(line: &str) -> (&str, Asked) {
+    if let Some(text) = line.strip_prefix("tree ") {
+        return (text, Asked::Trees);
+    }
+    match line.strip_prefix("call ") {
+        Some(text) => (text, Asked::Calls),
+        None => (line, Asked::Types),
+    }
+}
+
 // What is told of a line.
 fn answer(alloc: Global, schema: &Schema, line: &str) -> Result<String, AllocError> {
-    let (text, trees) = match line.strip_prefix("tree ") {
-        Some(text) => (text, true),
-        None => (line, false),
-    };
+    let (text, asked) = asked_of(line);
     let plans = units_of(alloc, text)?;
     match unit_trees(alloc, plans.as_slice()) {
-        Ok(units) => trees_line(alloc, schema, units.as_slice(), trees),
+        Ok(units) => trees_line(alloc, schema, units.as_slice(), asked),
         Err(UnitFault::Wrong(_)) => String::from_str(alloc, "no tree"),
         Err(UnitFault::NoMemory) => Err(AllocError),
     }

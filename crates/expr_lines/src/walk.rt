@@ -10,6 +10,7 @@ use apex_syntax::{
 use class_heads::Classes;
 use class_members::MemberTables;
 use local_scopes::Scope;
+use method_calls::{Callee, MethodNames, called_alone, called_on};
 use name_meanings::{Setting, member_of, name_in, super_in, this_in};
 use record_words::RecordWords;
 use static_types::{Primitive, ValueType};
@@ -23,14 +24,22 @@ use typed_operations::{
 use typed_trees::{Constant, StepKind, TypedExpr};
 use typed_values::{Kind, Role, Typed, stored};
 
+/// What is told of statements.
+#[derive(Clone, Copy, Debug, PartialEq, Eq, Drop)]
+pub enum Asked {
+    Types,
+    Trees,
+    Calls,
+}
+
 /// What is known of all classes and objects.
 #[derive(Drop)]
 pub struct Ground<'a> {
     pub classes: &'a Classes<'a>,
     pub members: &'a MemberTables,
+    pub methods: &'a MethodNames,
     pub words: &'a RecordWords<'a>,
-    /// Whether trees are printed.
-    pub trees: bool,
+    pub asked: Asked,
 }
 
 /// Why a walk ends early.
@@ -236,7 +245,7 @@ fn add_value(
 ) -> Result<(), AllocError> {
     line.push(' ')?;
     add_kind(line, kind)?;
-    if ground.trees {
+    if ground.asked == Asked::Trees {
         line.push('=')?;
         add_tree(line, tree)?;
     }
@@ -252,6 +261,31 @@ fn declare(alloc: Global, scope: &mut Scope, word: &Word, kind: ValueType) -> Re
     Ok(())
 }
 
+// What the call that an expression is means.
+fn callee(
+    alloc: Global,
+    ground: &Ground,
+    setting: &Setting,
+    scope: &Scope,
+    tree: &Expr,
+) -> Result<Callee, Stop> {
+    match tree {
+        Expr::Call(_, word, args) => {
+            Ok(called_alone(alloc, setting, ground.methods, word, args.len())?)
+        }
+        Expr::Postfix(_, head, all) => {
+            let Some((PostfixPart::Call(_, word, args), before)) = all.as_slice().split_last()
+            else {
+                return Err(Stop::NotWalked);
+            };
+            let value = expr(alloc, setting, scope, head.get())?;
+            let receiver = parts(alloc, setting, value, before)?;
+            Ok(called_on(alloc, setting, ground.methods, &receiver, word, args.len())?)
+        }
+        _ => Err(Stop::NotWalked),
+    }
+}
+
 fn statement(
     alloc: Global,
     ground: &Ground,
@@ -261,6 +295,11 @@ fn statement(
     stmt: &Stmt,
 ) -> Result<(), Stop> {
     match stmt {
+        Stmt::Expr(_, tree) if ground.asked == Asked::Calls => {
+            let callee = callee(alloc, ground, setting, scope, tree.get())?;
+            write!(line, " {callee:?}")?;
+            Ok(())
+        }
         Stmt::Expr(_, tree) => {
             let value = expr(alloc, setting, scope, tree.get())?;
             add_value(line, ground, &value.kind, value.tree.get())?;
