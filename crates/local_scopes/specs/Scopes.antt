@@ -1,5 +1,5 @@
 -- Locals in scope, the first declared first (docs/language.md, "Locals").
-use Rattle.std.specs.Prelude.{ℕ, Bool, List, [], ◌∷◌, bytes_eq, position, map, option_map, slice_get, Option}
+use Rattle.std.specs.Prelude.{ℕ, List, bytes_eq, position, option_map, slice_get, Option}
 use Rattle.std.specs.Map.{keys_of}
 use Rattle.static_types.specs.declared.kind.ValueType.{ValueType}
 

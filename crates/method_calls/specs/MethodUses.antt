@@ -1,5 +1,5 @@
 -- Methods of classes as code may use them (docs/language.md, "Calls").
-use Rattle.std.specs.Prelude.{ℕ, ◌&&◌, ◌||◌, not, eqb, Bool, true, false, cond, List, slice_get, Option, None, Some}
+use Rattle.std.specs.Prelude.{ℕ, ◌&&◌, ◌||◌, not, Bool, false, cond, List, slice_get, Option, None, Some}
 use Rattle.class_members.specs.declared.key.MethodKey.{MethodKey}
 use Rattle.class_members.specs.declared.member.ClassMembers.{ClassMembers}
 use Rattle.class_members.specs.declared.member.MethodHead.{MethodHead}
@@ -9,6 +9,7 @@ use Rattle.class_members.specs.Lookups.{found_method}
 use Rattle.method_calls.specs.declared.found.MethodUse.{MethodUse}
 use Rattle.method_calls.specs.declared.found.MethodUse.TheVariants.{Unknown, WrongCount, Hidden, Static, Instance}
 use Rattle.method_calls.specs.MethodNamings.{is_named}
+use Rattle.name_meanings.specs.Fields.{is_own}
 use Rattle.name_meanings.specs.Settings.{Around}
 
 abbrev pub method_in : Option ClassMembers → ℕ → Option MethodHead
@@ -24,10 +25,6 @@ body_or None = false
 
 abbrev pub has_body : List ClassMembers → Member → Bool
 has_body all member = body_or (method_at all member)
-
-abbrev pub is_own : Option ℕ → ℕ → Bool
-is_own (Some c) declares = eqb c declares
-is_own None declares = false
 
 -- a static or private method without a body could never run; calls of private ones are not virtual
 abbrev pub use_of : Around → Member → MethodHead → MethodUse

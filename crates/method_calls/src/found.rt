@@ -11,7 +11,7 @@ use crate::named::MethodNames;
 use apex_num::NoMemory;
 use apex_text::Name;
 use class_members::{Member, MemberTables, MethodHead, MethodKey};
-use name_meanings::Setting;
+use name_meanings::{Setting, is_own};
 
 /// How a name and a number of arguments may be used as those of a method.
 #[derive(Clone, Copy, Debug, PartialEq, Eq, Drop)]
@@ -42,15 +42,6 @@ pub fn has_body(members: &MemberTables, member: Member) -> bool
 {
     match method_at(members, member) {
         Some(method) => method.has_body,
-        None => false,
-    }
-}
-
-fn is_own(class: Option<usize>, declares: usize) -> bool
-    ensures { result ≡ spec.is_own class declares }
-{
-    match class {
-        Some(c) => c == declares,
         None => false,
     }
 }

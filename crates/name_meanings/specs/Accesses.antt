@@ -1,5 +1,5 @@
 -- What stands behind a dot (docs/language.md, "Names in code").
-use Rattle.std.specs.Prelude.{ℕ, Bool, true, false, List, [], ◌∷◌, Option, None, Some}
+use Rattle.std.specs.Prelude.{ℕ, Bool, true, false, List, Option, None, Some}
 use Rattle.apex_schema.specs.declared.reply.FaultWord.TheVariants.{UnknownName, NotVisible, BadTrigger}
 use Rattle.apex_schema.specs.declared.schema.Field.{Field}
 use Rattle.apex_schema.specs.declared.schema.FieldKind.{FieldKind}
@@ -10,7 +10,7 @@ use Rattle.class_members.specs.declared.tables.Member.{Member}
 use Rattle.name_meanings.specs.declared.access.Access.{Access}
 use Rattle.name_meanings.specs.declared.access.Access.TheVariants as A
 use Rattle.name_meanings.specs.declared.field.FieldUse.{FieldUse}
-use Rattle.name_meanings.specs.declared.field.FieldUse.TheVariants.{Unknown, Hidden, Static, Instance}
+use Rattle.name_meanings.specs.declared.field.FieldUse.TheVariants.{Hidden, Static, Instance}
 use Rattle.name_meanings.specs.Fields.{field_use, field_kind, role_of, static_value}
 use Rattle.name_meanings.specs.Parts.{with_part}
 use Rattle.name_meanings.specs.Records.{cell_type, may_set_cell, parent_object, field_in}

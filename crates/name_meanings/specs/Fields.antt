@@ -1,5 +1,5 @@
 -- Fields of classes as code may use them (docs/language.md, "Names in code").
-use Rattle.std.specs.Prelude.{ℕ, ◌&&◌, ◌||◌, not, eqb, Bool, true, false, cond, List, slice_get, Option, None, Some}
+use Rattle.std.specs.Prelude.{ℕ, ◌&&◌, ◌||◌, not, eqb, Bool, false, cond, List, slice_get, Option, None, Some}
 use Rattle.class_members.specs.declared.member.ClassMembers.{ClassMembers}
 use Rattle.class_members.specs.declared.member.FieldHead.{FieldHead}
 use Rattle.class_members.specs.declared.tables.Member.{Member}

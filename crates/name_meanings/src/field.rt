@@ -38,7 +38,8 @@ fn field_at(members: &MemberTables, member: Member) -> Option<&FieldHead>
     }
 }
 
-fn is_own(class: Option<usize>, declares: usize) -> bool
+/// Whether code of this class, if it is a class's, is that of the class that declares something.
+pub fn is_own(class: Option<usize>, declares: usize) -> bool
     ensures { result ≡ spec.is_own class declares }
 {
     match class {

@@ -11,7 +11,7 @@ mod space;
 mod variable;
 
 pub use access::member_of;
-pub use field::FieldUse;
+pub use field::{FieldUse, is_own};
 pub use name::{name_in, super_in, this_in};
 pub use part::with_part;
 pub use setting::Setting;

@@ -1,5 +1,5 @@
 -- What fits where (docs/language.md, "Values and their types").
-use Rattle.std.specs.Prelude.{ℕ, eqb, Bool, true, false, cond, List, Option, None, Some}
+use Rattle.std.specs.Prelude.{ℕ, eqb, Bool, false, cond, List, Option, None, Some}
 use Rattle.apex_schema.specs.declared.reply.FaultWord.TheVariants.{WrongType}
 use Rattle.class_heads.specs.declared.head.ClassHead.{ClassHead}
 use Rattle.class_heads.specs.Lines.{fits}
