@@ -1,5 +1,5 @@
 -- Collections of what is in another one (docs/language.md, "New values").
-use Rattle.std.specs.Prelude.{ℕ, eqb, Bool, false, cond, List, Option, None, Some}
+use Rattle.std.specs.Prelude.{Bool, false, cond, List, Option, None, Some}
 use Rattle.class_heads.specs.declared.head.ClassHead.{ClassHead}
 use Rattle.constructor_calls.specs.declared.copies.Copying.{Copying}
 use Rattle.constructor_calls.specs.declared.copies.Copying.TheVariants.{Same, ById}

@@ -1,7 +1,7 @@
 // Typed trees as they are printed.
 
 use std::alloc::AllocError;
-use typed_trees::{Constant, TypedExpr, TypedPart};
+use typed_trees::{Constant, TypedExpr, TypedNew, TypedPart};
 
 fn add_constant(line: &mut String, constant: &Constant) -> Result<(), AllocError> {
     match constant {
@@ -16,6 +16,7 @@ fn add_constant(line: &mut String, constant: &Constant) -> Result<(), AllocError
     }
 }
 
+#[cycle(tree)]
 fn add_part(line: &mut String, part: &TypedPart) -> Result<(), AllocError> {
     match part {
         TypedPart::Field(class, place) => write!(line, ".field{class}.{place}"),
@@ -24,7 +25,53 @@ fn add_part(line: &mut String, part: &TypedPart) -> Result<(), AllocError> {
         TypedPart::Parent(object, field, false) => write!(line, ".parent{object}.{field}"),
         TypedPart::Parent(object, field, true) => write!(line, "?parent{object}.{field}"),
         TypedPart::Children(object, field) => write!(line, ".children{object}.{field}"),
-        TypedPart::Index(_) | TypedPart::Call(..) | TypedPart::Builtin(..) => line.push_str("..."),
+        TypedPart::Call(class, place, nearest, args) => {
+            let word = if *nearest { "nearest" } else { "call" };
+            write!(line, ".{word}{class}.{place}")?;
+            add_trees(line, args.as_slice())
+        }
+        TypedPart::Index(_) | TypedPart::Builtin(..) => line.push_str("..."),
+    }
+}
+
+// Trees in parentheses.
+#[cycle(tree)]
+fn add_trees(line: &mut String, trees: &[TypedExpr]) -> Result<(), AllocError> {
+    line.push('(')?;
+    for i in 0..trees.len() {
+        if i > 0 {
+            line.push_str(", ")?;
+        }
+        add_tree(line, &trees[i])?;
+    }
+    line.push(')')
+}
+
+#[cycle(tree)]
+fn add_new(line: &mut String, tree: &TypedNew) -> Result<(), AllocError> {
+    match tree {
+        TypedNew::Instance(class, constructor, args) => {
+            write!(line, "new{class}:{constructor:?}")?;
+            add_trees(line, args.as_slice())
+        }
+        TypedNew::Exception(class, args) => {
+            write!(line, "new {}", class.name())?;
+            add_trees(line, args.as_slice())
+        }
+        TypedNew::Record(object, fields) => write!(line, "record{object}:{}", fields.len()),
+        TypedNew::Collection(kind, items) => {
+            write!(line, "new {kind:?}")?;
+            add_trees(line, items.as_slice())
+        }
+        TypedNew::Map(key, items) => write!(line, "new Map({key:?}):{}", items.len()),
+        TypedNew::Copy(kind, other) => {
+            write!(line, "copy {kind:?} ")?;
+            add_tree(line, other.get())
+        }
+        TypedNew::ById(other) => {
+            line.push_str("by id ")?;
+            add_tree(line, other.get())
+        }
     }
 }
 
@@ -104,10 +151,13 @@ pub fn add_tree(line: &mut String, tree: &TypedExpr) -> Result<(), AllocError> {
             add_tree(line, inner.get())?;
             line.push(')')
         }
-        TypedExpr::New(_)
-        | TypedExpr::CallStatic(..)
-        | TypedExpr::CallBuiltin(..)
-        | TypedExpr::Debug(_)
-        | TypedExpr::Query(..) => line.push_str("..."),
+        TypedExpr::New(tree) => add_new(line, tree),
+        TypedExpr::CallStatic(class, place, args) => {
+            write!(line, "static{class}.{place}")?;
+            add_trees(line, args.as_slice())
+        }
+        TypedExpr::CallBuiltin(..) | TypedExpr::Debug(_) | TypedExpr::Query(..) => {
+            line.push_str("...")
+        }
     }
 }

@@ -3,12 +3,15 @@
 use crate::shown::add_kind;
 use crate::tree::add_tree;
 use apex_list::{Boxed, Items};
+use apex_schema::FaultWord;
 use apex_syntax::{
     AssignOp, BinaryOp, Body, ClassTree, Expr, Literal, MemberModifier, MemberTree, MemberWord,
-    NumberTree, ParamTree, PostfixPart, PrefixOp, StepOp, Stmt, Unit, Word,
+    NewPart, NumberTree, ParamTree, PostfixPart, PrefixOp, StepOp, Stmt, Unit, Word,
 };
 use class_heads::Classes;
 use class_members::MemberTables;
+use constructor_calls::{made_with, maker_of};
+use declared_calls::{method_call, static_call};
 use local_scopes::Scope;
 use method_calls::{Callee, MethodNames, called_alone, called_on};
 use name_meanings::{Setting, member_of, name_in, super_in, this_in};
@@ -16,7 +19,7 @@ use record_words::RecordWords;
 use static_types::{Primitive, ValueType};
 use std::alloc::{AllocError, Global};
 use trigger_headers::trigger_header;
-use type_names::{TypeNames, WalkFault, type_of};
+use type_names::{TreeFault, TypeNames, WalkFault, type_of};
 use typed_operations::{
     assigned, assigned_with, begun, cast_to, chosen, closed, negated, opposite, stepped,
     with_operand, writable,
@@ -62,8 +65,8 @@ impl From<WalkFault> for Stop {
     }
 }
 
-impl From<type_names::TreeFault> for Stop {
-    fn from(fault: type_names::TreeFault) -> Stop {
+impl From<TreeFault> for Stop {
+    fn from(fault: TreeFault) -> Stop {
         Stop::Walk(WalkFault::Wrong(fault))
     }
 }
@@ -141,7 +144,53 @@ fn prefixed(
     }
 }
 
-fn part(alloc: Global, setting: &Setting, value: Typed, part: &PostfixPart) -> Result<Typed, Stop> {
+// What a call gives, once it is known what it means.
+fn called(
+    alloc: Global,
+    setting: &Setting,
+    receiver: Typed,
+    callee: Callee,
+    name_at: usize,
+    args: Items<Typed>,
+) -> Result<Typed, Stop> {
+    match callee {
+        Callee::Static(member) => {
+            Ok(static_call(alloc, setting, receiver.at, member, name_at, args)?)
+        }
+        Callee::Method(member, nearest) => {
+            Ok(method_call(alloc, setting, receiver, member, nearest, name_at, args)?)
+        }
+        Callee::WrongCount => Err(TreeFault::new(FaultWord::WrongArguments, name_at).into()),
+        Callee::Builtin(_) | Callee::OfType(_) | Callee::Debug | Callee::Faulty => {
+            Err(Stop::NotWalked)
+        }
+    }
+}
+
+#[cycle(expr)]
+fn values(
+    alloc: Global,
+    ground: &Ground,
+    setting: &Setting,
+    scope: &Scope,
+    trees: &[Expr],
+) -> Result<Items<Typed>, Stop> {
+    let mut all = Items::new(alloc);
+    for tree in trees {
+        all.push(expr(alloc, ground, setting, scope, tree)?)?;
+    }
+    Ok(all)
+}
+
+#[cycle(expr)]
+fn part(
+    alloc: Global,
+    ground: &Ground,
+    setting: &Setting,
+    scope: &Scope,
+    value: Typed,
+    part: &PostfixPart,
+) -> Result<Typed, Stop> {
     match part {
         PostfixPart::Field(word) => Ok(member_of(alloc, setting, value, word)?),
         PostfixPart::Step(_, op) => {
@@ -149,21 +198,40 @@ fn part(alloc: Global, setting: &Setting, value: Typed, part: &PostfixPart) -> R
             let at = value.at;
             Ok(stepped(alloc, at, StepKind { up, before: false }, value)?)
         }
-        PostfixPart::Call(..) | PostfixPart::Index(..) => Err(Stop::NotWalked),
+        PostfixPart::Call(_, word, args) => {
+            let callee = called_on(alloc, setting, ground.methods, &value, word, args.len())?;
+            let args = values(alloc, ground, setting, scope, args.as_slice())?;
+            called(alloc, setting, value, callee, word.span.from, args)
+        }
+        PostfixPart::Index(..) => Err(Stop::NotWalked),
     }
 }
 
+#[cycle(expr)]
 fn parts(
     alloc: Global,
+    ground: &Ground,
     setting: &Setting,
+    scope: &Scope,
     value: Typed,
     all: &[PostfixPart],
 ) -> Result<Typed, Stop> {
     let mut value = value;
     for one in all {
-        value = part(alloc, setting, value, one)?;
+        value = part(alloc, ground, setting, scope, value, one)?;
     }
     Ok(value)
+}
+
+// What a method that is called by its name alone is called on.
+fn this_at(alloc: Global, setting: &Setting, at: usize) -> Result<Typed, Stop> {
+    match setting.class {
+        Some(class) => {
+            let kind = Kind::Is(ValueType::Class(class));
+            Ok(Typed::plain(alloc, at, kind, TypedExpr::This)?)
+        }
+        None => Err(Stop::NotWalked),
+    }
 }
 
 fn in_parentheses(at: usize, value: Typed) -> Typed {
@@ -178,15 +246,16 @@ fn in_parentheses(at: usize, value: Typed) -> Typed {
 #[cycle(expr)]
 fn assign(
     alloc: Global,
+    ground: &Ground,
     setting: &Setting,
     scope: &Scope,
     target: &Boxed<Expr>,
     op: AssignOp,
     value: &Boxed<Expr>,
 ) -> Result<Typed, Stop> {
-    let target = expr(alloc, setting, scope, target.get())?;
+    let target = expr(alloc, ground, setting, scope, target.get())?;
     writable(&target)?;
-    let value = expr(alloc, setting, scope, value.get())?;
+    let value = expr(alloc, ground, setting, scope, value.get())?;
     match operator(op) {
         Some(op) => Ok(assigned_with(alloc, setting.lines, target, op, value)?),
         None => Ok(assigned(alloc, setting.lines, target, value)?),
@@ -194,46 +263,67 @@ fn assign(
 }
 
 #[cycle(expr)]
-fn expr(alloc: Global, setting: &Setting, scope: &Scope, tree: &Expr) -> Result<Typed, Stop> {
+fn expr(
+    alloc: Global,
+    ground: &Ground,
+    setting: &Setting,
+    scope: &Scope,
+    tree: &Expr,
+) -> Result<Typed, Stop> {
     match tree {
         Expr::Literal(span, value) => literal(alloc, span.from, value),
         Expr::This(span) => Ok(this_in(alloc, setting, span.from)?),
         Expr::Super(span) => Ok(super_in(alloc, setting, span.from)?),
         Expr::Name(word) => Ok(name_in(alloc, setting, scope, word)?),
         Expr::Paren(span, inner) => {
-            let value = expr(alloc, setting, scope, inner.get())?;
+            let value = expr(alloc, ground, setting, scope, inner.get())?;
             Ok(in_parentheses(span.from, value))
         }
         Expr::Postfix(_, head, all) => {
-            let value = expr(alloc, setting, scope, head.get())?;
-            parts(alloc, setting, value, all.as_slice())
+            let value = expr(alloc, ground, setting, scope, head.get())?;
+            parts(alloc, ground, setting, scope, value, all.as_slice())
         }
         Expr::Prefix(span, op, operand) => {
-            let value = expr(alloc, setting, scope, operand.get())?;
+            let value = expr(alloc, ground, setting, scope, operand.get())?;
             prefixed(alloc, setting, span.from, *op, value)
         }
         Expr::Cast(span, kind, operand) => {
             let kind = type_of(alloc, &setting.names, kind)?;
-            let value = expr(alloc, setting, scope, operand.get())?;
+            let value = expr(alloc, ground, setting, scope, operand.get())?;
             Ok(cast_to(alloc, setting.lines, span.from, kind, value)?)
         }
         Expr::Chain(_, first, rest) => {
-            let value = expr(alloc, setting, scope, first.get())?;
+            let value = expr(alloc, ground, setting, scope, first.get())?;
             let mut chain = begun(alloc, value);
             for operand in rest.as_slice() {
-                let right = expr(alloc, setting, scope, &operand.right)?;
+                let right = expr(alloc, ground, setting, scope, &operand.right)?;
                 chain = with_operand(alloc, setting.lines, chain, operand.op, right)?;
             }
             Ok(closed(alloc, chain)?)
         }
         Expr::Conditional(_, test, first, second) => {
-            let test = expr(alloc, setting, scope, test.get())?;
-            let first = expr(alloc, setting, scope, first.get())?;
-            let second = expr(alloc, setting, scope, second.get())?;
+            let test = expr(alloc, ground, setting, scope, test.get())?;
+            let first = expr(alloc, ground, setting, scope, first.get())?;
+            let second = expr(alloc, ground, setting, scope, second.get())?;
             Ok(chosen(alloc, setting.lines, test, first, second)?)
         }
-        Expr::Assign(_, target, op, value) => assign(alloc, setting, scope, target, *op, value),
-        Expr::Call(..) | Expr::New(..) | Expr::Query(..) => Err(Stop::NotWalked),
+        Expr::Assign(_, target, op, value) => assign(
+            alloc, ground, setting, scope, target, *op, value,
+        ),
+        Expr::Call(_, word, args) => {
+            let callee = called_alone(alloc, setting, ground.methods, word, args.len())?;
+            let args = values(alloc, ground, setting, scope, args.as_slice())?;
+            let this = this_at(alloc, setting, word.span.from)?;
+            called(alloc, setting, this, callee, word.span.from, args)
+        }
+        Expr::New(span, tree, NewPart::Args(_, args)) => {
+            let kind = type_of(alloc, &setting.names, tree)?;
+            let at = tree.span.from;
+            let maker = maker_of(alloc, setting, &kind, at, args.len())?;
+            let args = values(alloc, ground, setting, scope, args.as_slice())?;
+            Ok(made_with(alloc, setting, span.from, kind, maker, at, args)?)
+        }
+        Expr::New(..) | Expr::Query(..) => Err(Stop::NotWalked),
     }
 }
 
@@ -278,8 +368,8 @@ fn callee(
             else {
                 return Err(Stop::NotWalked);
             };
-            let value = expr(alloc, setting, scope, head.get())?;
-            let receiver = parts(alloc, setting, value, before)?;
+            let value = expr(alloc, ground, setting, scope, head.get())?;
+            let receiver = parts(alloc, ground, setting, scope, value, before)?;
             Ok(called_on(alloc, setting, ground.methods, &receiver, word, args.len())?)
         }
         _ => Err(Stop::NotWalked),
@@ -301,7 +391,7 @@ fn statement(
             Ok(())
         }
         Stmt::Expr(_, tree) => {
-            let value = expr(alloc, setting, scope, tree.get())?;
+            let value = expr(alloc, ground, setting, scope, tree.get())?;
             add_value(line, ground, &value.kind, value.tree.get())?;
             Ok(())
         }
@@ -309,7 +399,7 @@ fn statement(
             let kind = type_of(alloc, &setting.names, tree)?;
             for name in names.as_slice() {
                 if let Some(tree) = &name.value {
-                    let value = expr(alloc, setting, scope, tree.get())?;
+                    let value = expr(alloc, ground, setting, scope, tree.get())?;
                     let tree = stored(alloc, setting.lines, value, &kind)?;
                     add_value(line, ground, &Kind::Is(kind.copy()?), tree.get())?;
                 }
