@@ -29,8 +29,8 @@ has_body all member = body_or (method_at all member)
 -- a static or private method without a body could never run; calls of private ones are not virtual
 abbrev pub use_of : Around → Member → MethodHead → MethodUse
 use_of a member m =
-    cond (m.is_private && not (is_own a.class member.class)) (Hidden m.is_static)
-    (cond (not m.has_body && (m.is_static || m.is_private)) Unknown
+    cond (not m.has_body && (m.is_static || m.is_private)) Unknown
+    (cond (m.is_private && not (is_own a.class member.class)) (Hidden m.is_static)
     (cond m.is_static (Static member) (Instance member (not m.is_private))))
 
 abbrev pub use_or : Around → Member → Option MethodHead → MethodUse

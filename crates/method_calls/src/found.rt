@@ -50,11 +50,11 @@ pub fn has_body(members: &MemberTables, member: Member) -> bool
 fn use_of(setting: &Setting, member: Member, method: &MethodHead) -> MethodUse
     ensures { result ≡ spec.use_of (around setting.now) member method.now }
 {
-    if method.is_private && !is_own(setting.class, member.class) {
-        return MethodUse::Hidden(method.is_static);
-    }
     if !method.has_body && (method.is_static || method.is_private) {
         return MethodUse::Unknown;
+    }
+    if method.is_private && !is_own(setting.class, member.class) {
+        return MethodUse::Hidden(method.is_static);
     }
     if method.is_static {
         MethodUse::Static(member)
