@@ -30,7 +30,11 @@ fn add_part(line: &mut String, part: &TypedPart) -> Result<(), AllocError> {
             write!(line, ".{word}{class}.{place}")?;
             add_trees(line, args.as_slice())
         }
-        TypedPart::Index(_) | TypedPart::Builtin(..) => line.push_str("..."),
+        TypedPart::Builtin(builtin, args) => {
+            write!(line, ".{builtin:?}")?;
+            add_trees(line, args.as_slice())
+        }
+        TypedPart::Index(_) => line.push_str("..."),
     }
 }
 
@@ -156,8 +160,14 @@ pub fn add_tree(line: &mut String, tree: &TypedExpr) -> Result<(), AllocError> {
             write!(line, "static{class}.{place}")?;
             add_trees(line, args.as_slice())
         }
-        TypedExpr::CallBuiltin(..) | TypedExpr::Debug(_) | TypedExpr::Query(..) => {
-            line.push_str("...")
+        TypedExpr::CallBuiltin(builtin, args) => {
+            write!(line, "{builtin:?}")?;
+            add_trees(line, args.as_slice())
         }
+        TypedExpr::Debug(value) => {
+            line.push_str("debug ")?;
+            add_tree(line, value.get())
+        }
+        TypedExpr::Query(..) => line.push_str("..."),
     }
 }

@@ -8,6 +8,7 @@ use apex_syntax::{
     AssignOp, BinaryOp, Body, ClassTree, Expr, Literal, MemberModifier, MemberTree, MemberWord,
     NewPart, NumberTree, ParamTree, PostfixPart, PrefixOp, StepOp, Stmt, Unit, Word,
 };
+use builtin_calls::{builtin_call, debug_call, type_call};
 use class_heads::Classes;
 use class_members::MemberTables;
 use constructor_calls::{made_with, maker_of};
@@ -161,9 +162,19 @@ fn called(
             Ok(method_call(alloc, setting, receiver, member, nearest, name_at, args)?)
         }
         Callee::WrongCount => Err(TreeFault::new(FaultWord::WrongArguments, name_at).into()),
-        Callee::Builtin(_) | Callee::OfType(_) | Callee::Debug | Callee::Faulty => {
-            Err(Stop::NotWalked)
+        Callee::Builtin(builtin) => {
+            Ok(builtin_call(alloc, setting.lines, receiver, builtin, name_at, args)?)
         }
+        Callee::OfType(builtin) => {
+            Ok(type_call(alloc, setting.lines, receiver.at, builtin, name_at, args)?)
+        }
+        Callee::Debug => Ok(debug_call(alloc, receiver.at, name_at, args)?),
+        Callee::Faulty => Ok(Typed {
+            at: receiver.at,
+            kind: Kind::Faulty,
+            role: Role::Plain,
+            tree: receiver.tree,
+        }),
     }
 }
 

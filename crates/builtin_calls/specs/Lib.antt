@@ -1,0 +1,5 @@
+pub mod Widths
+pub mod Admissions
+pub mod Wants
+pub mod Answered
+pub mod BuiltinCalls
