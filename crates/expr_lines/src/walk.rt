@@ -2,7 +2,7 @@
 
 use crate::shown::add_kind;
 use crate::tree::add_tree;
-use apex_list::{Boxed, Items};
+use apex_list::Items;
 use apex_schema::FaultWord;
 use apex_syntax::{
     AssignOp, BinaryOp, Body, ClassTree, Expr, Literal, MemberModifier, MemberTree, MemberWord,
@@ -199,8 +199,8 @@ fn part(
     ground: &Ground,
     setting: &Setting,
     scope: &Scope,
-    value: Typed,
     part: &PostfixPart,
+    value: Typed,
 ) -> Result<Typed, Stop> {
     match part {
         PostfixPart::Field(word) => Ok(member_of(alloc, setting, value, word)?),
@@ -224,12 +224,12 @@ fn parts(
     ground: &Ground,
     setting: &Setting,
     scope: &Scope,
-    value: Typed,
     all: &[PostfixPart],
+    value: Typed,
 ) -> Result<Typed, Stop> {
     let mut value = value;
     for one in all {
-        value = part(alloc, ground, setting, scope, value, one)?;
+        value = part(alloc, ground, setting, scope, one, value)?;
     }
     Ok(value)
 }
@@ -254,19 +254,13 @@ fn in_parentheses(at: usize, value: Typed) -> Typed {
     }
 }
 
-#[cycle(expr)]
-fn assign(
+fn assigned_by(
     alloc: Global,
-    ground: &Ground,
     setting: &Setting,
-    scope: &Scope,
-    target: &Boxed<Expr>,
+    target: Typed,
     op: AssignOp,
-    value: &Boxed<Expr>,
+    value: Typed,
 ) -> Result<Typed, Stop> {
-    let target = expr(alloc, ground, setting, scope, target.get())?;
-    writable(&target)?;
-    let value = expr(alloc, ground, setting, scope, value.get())?;
     match operator(op) {
         Some(op) => Ok(assigned_with(alloc, setting.lines, target, op, value)?),
         None => Ok(assigned(alloc, setting.lines, target, value)?),
@@ -292,7 +286,7 @@ fn expr(
         }
         Expr::Postfix(_, head, all) => {
             let value = expr(alloc, ground, setting, scope, head.get())?;
-            parts(alloc, ground, setting, scope, value, all.as_slice())
+            parts(alloc, ground, setting, scope, all.as_slice(), value)
         }
         Expr::Prefix(span, op, operand) => {
             let value = expr(alloc, ground, setting, scope, operand.get())?;
@@ -318,9 +312,12 @@ fn expr(
             let second = expr(alloc, ground, setting, scope, second.get())?;
             Ok(chosen(alloc, setting.lines, test, first, second)?)
         }
-        Expr::Assign(_, target, op, value) => assign(
-            alloc, ground, setting, scope, target, *op, value,
-        ),
+        Expr::Assign(_, target, op, value) => {
+            let target = expr(alloc, ground, setting, scope, target.get())?;
+            writable(&target)?;
+            let value = expr(alloc, ground, setting, scope, value.get())?;
+            assigned_by(alloc, setting, target, *op, value)
+        }
         Expr::Call(_, word, args) => {
             let callee = called_alone(alloc, setting, ground.methods, word, args.len())?;
             let args = values(alloc, ground, setting, scope, args.as_slice())?;
@@ -380,7 +377,7 @@ fn callee(
                 return Err(Stop::NotWalked);
             };
             let value = expr(alloc, ground, setting, scope, head.get())?;
-            let receiver = parts(alloc, ground, setting, scope, value, before)?;
+            let receiver = parts(alloc, ground, setting, scope, before, value)?;
             Ok(called_on(alloc, setting, ground.methods, &receiver, word, args.len())?)
         }
         _ => Err(Stop::NotWalked),
