@@ -179,21 +179,6 @@ fn called(
 }
 
 #[cycle(expr)]
-fn values(
-    alloc: Global,
-    ground: &Ground,
-    setting: &Setting,
-    scope: &Scope,
-    trees: &[Expr],
-) -> Result<Items<Typed>, Stop> {
-    let mut all = Items::new(alloc);
-    for tree in trees {
-        all.push(expr(alloc, ground, setting, scope, tree)?)?;
-    }
-    Ok(all)
-}
-
-#[cycle(expr)]
 fn part(
     alloc: Global,
     ground: &Ground,
@@ -211,8 +196,11 @@ fn part(
         }
         PostfixPart::Call(_, word, args) => {
             let callee = called_on(alloc, setting, ground.methods, &value, word, args.len())?;
-            let args = values(alloc, ground, setting, scope, args.as_slice())?;
-            called(alloc, setting, value, callee, word.span.from, args)
+            let mut values = Items::new(alloc);
+            for arg in args.as_slice() {
+                values.push(expr(alloc, ground, setting, scope, arg)?)?;
+            }
+            called(alloc, setting, value, callee, word.span.from, values)
         }
         PostfixPart::Index(..) => Err(Stop::NotWalked),
     }
@@ -320,16 +308,22 @@ fn expr(
         }
         Expr::Call(_, word, args) => {
             let callee = called_alone(alloc, setting, ground.methods, word, args.len())?;
-            let args = values(alloc, ground, setting, scope, args.as_slice())?;
+            let mut values = Items::new(alloc);
+            for arg in args.as_slice() {
+                values.push(expr(alloc, ground, setting, scope, arg)?)?;
+            }
             let this = this_at(alloc, setting, word.span.from)?;
-            called(alloc, setting, this, callee, word.span.from, args)
+            called(alloc, setting, this, callee, word.span.from, values)
         }
         Expr::New(span, tree, NewPart::Args(_, args)) => {
             let kind = type_of(alloc, &setting.names, tree)?;
             let at = tree.span.from;
             let maker = maker_of(alloc, setting, &kind, at, args.len())?;
-            let args = values(alloc, ground, setting, scope, args.as_slice())?;
-            Ok(made_with(alloc, setting, span.from, kind, maker, at, args)?)
+            let mut values = Items::new(alloc);
+            for arg in args.as_slice() {
+                values.push(expr(alloc, ground, setting, scope, arg)?)?;
+            }
+            Ok(made_with(alloc, setting, span.from, kind, maker, at, values)?)
         }
         Expr::New(..) | Expr::Query(..) => Err(Stop::NotWalked),
     }
