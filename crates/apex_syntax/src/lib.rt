@@ -19,8 +19,8 @@ pub use expr::{
 };
 pub use nesting::depth;
 pub use query::{
-    BindRange, BindTree, CompareOp, CondTree, CountTree, KeyTree, ListTree, NumberTree, PathTree,
-    QueryTree, SelTree, SelectTree, ValueTree,
+    BindRange, BindTree, CompareOp, CondTree, CountTree, KeyTree, ListTree, NumberTree, OrderTree,
+    PathTree, QueryTree, SelTree, SelectTree, ValueTree,
 };
 pub use stmt::{Body, Catch, Declarator, DmlOp, ForStart, Stmt};
 pub use tree::{Link, Op};

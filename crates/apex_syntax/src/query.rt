@@ -15,8 +15,8 @@ pub struct QueryTree {
     pub object: Word,
     /// The condition behind `WHERE`.
     pub cond: Option<CondTree>,
-    /// The keys behind `ORDER BY`; none where it isn't written.
-    pub keys: Items<KeyTree>,
+    /// `ORDER BY` and its keys.
+    pub order: Option<OrderTree>,
     pub limit: Option<CountTree>,
     pub offset: Option<CountTree>,
     /// `FOR UPDATE`
@@ -119,6 +119,13 @@ pub enum ListTree {
     /// One or more values in parentheses; the span has them.
     Values(Span, Items<ValueTree>),
     Bind(BindTree),
+}
+
+/// `ORDER BY` and one or more keys.
+#[derive(Debug, Drop)]
+pub struct OrderTree {
+    pub span: Span,
+    pub keys: Items<KeyTree>,
 }
 
 /// A key of an order.

@@ -28,6 +28,7 @@ use Rattle.apex_syntax.specs.declared.query.NumberTree.TheVariants.{Integer, Lon
 use Rattle.apex_syntax.specs.declared.query.ListTree.{ListTree}
 use Rattle.apex_syntax.specs.declared.query.ListTree.TheVariants.{Values, Bind as BoundList}
 use Rattle.apex_syntax.specs.declared.query.KeyTree.{KeyTree}
+use Rattle.apex_syntax.specs.declared.query.OrderTree.{OrderTree}
 use Rattle.apex_syntax.specs.declared.query.CountTree.{CountTree}
 use Rattle.apex_syntax.specs.declared.query.CountTree.TheVariants.{Whole, Bind as BoundCount}
 use Rattle.apex_syntax.specs.declared.query.BindTree.{BindTree}
@@ -311,11 +312,13 @@ comma_key = Then (sign Comma) (λ _. key)
 abbrev pub more_keys : KeyTree → Rule (List KeyTree)
 more_keys k = Then (Many (next_sign Comma) comma_key) (λ ks. Give (k ∷ ks))
 
-abbrev pub ordered : Rule (List KeyTree)
-ordered = Then (word Order) (λ _. Then (word By) (λ _. Then key (λ k. more_keys k)))
+abbrev pub ordered : Rule OrderTree
+ordered =
+    Then Here (λ i. Then (word Order) (λ _. Then (word By) (λ _. Then key (λ k. Then (more_keys k) (λ ks. Then (Since i) (λ s.
+    Give (record { span = s; keys = ks })))))))
 
-abbrev pub keys : Rule (List KeyTree)
-keys = Choose (next_word Order) ordered (Give [])
+abbrev pub order : Rule (Option OrderTree)
+order = optional (next_word Order) ordered
 
 -- ---- queries
 
@@ -331,25 +334,25 @@ abbrev pub update : Bool → ℕ → Rule Bool
 update true place = Refuse LockedOrder place
 update false place = Give true
 
-abbrev pub has_keys : List KeyTree → Bool
-has_keys [] = false
-has_keys (k ∷ ks) = true
+abbrev pub has_order : Option OrderTree → Bool
+has_order None = false
+has_order (Some o) = true
 
 abbrev pub locking : Bool → Rule Bool
-locking has_order = Then Here (λ i. Then (word For) (λ _. Then (word Update) (λ _. update has_order i)))
+locking after_order = Then Here (λ i. Then (word For) (λ _. Then (word Update) (λ _. update after_order i)))
 
 abbrev pub lock : Bool → Rule Bool
-lock has_order = Choose (next_word For) (locking has_order) (Give false)
+lock after_order = Choose (next_word For) (locking after_order) (Give false)
 
 -- what stands behind FROM
 abbrev pub source : (ℕ → Rule BindTree) → ℕ → Rule FromPart
 source bind room =
-    Then (name AllWords) (λ o. Then (optional (next_word Where) (where_part bind room)) (λ c. Then keys (λ k.
+    Then (name AllWords) (λ o. Then (optional (next_word Where) (where_part bind room)) (λ c. Then order (λ k.
     Then (optional (next_word Limit) (count_part bind Limit room)) (λ l. Then (optional (next_word Offset) (count_part bind Offset room)) (λ f.
-    Give (record { object = o; cond = c; keys = k; limit = l; offset = f }))))))
+    Give (record { object = o; cond = c; order = k; limit = l; offset = f }))))))
 
 abbrev pub query_tree : Span → SelectTree → FromPart → Bool → QueryTree
-query_tree s sel from locked = record { span = s; select = sel; object = from.object; cond = from.cond; keys = from.keys; limit = from.limit; offset = from.offset; locked = locked }
+query_tree s sel from locked = record { span = s; select = sel; object = from.object; cond = from.cond; order = from.order; limit = from.limit; offset = from.offset; locked = locked }
 
 -- a subquery: it has no COUNT(), no FOR UPDATE and no subquery
 abbrev pub second_level : ℕ → Rule SelTree
@@ -407,4 +410,4 @@ selection bind room = Choose next_count (counting room) (items bind room)
 abbrev pub query : (ℕ → Rule BindTree) → ℕ → Rule QueryTree
 query bind room =
     Then Here (λ i. Then (word Select) (λ _. Then (selection bind room) (λ sel. Then (word From) (λ _. Then (source bind room) (λ f.
-    Then (lock (has_keys f.keys)) (λ u. Then (Since i) (λ s. Give (query_tree s sel f u))))))))
+    Then (lock (has_order f.order)) (λ u. Then (Since i) (λ s. Give (query_tree s sel f u))))))))

@@ -6,7 +6,7 @@ ghost use Rattle.soql_parse.specs.Queries as grammar;
 use crate::path::path;
 use apex_lexer::{Keyword, Sign, Token};
 use apex_list::Items;
-use apex_syntax::KeyTree;
+use apex_syntax::{KeyTree, OrderTree};
 use std::alloc::Global;
 use token_grammar::{Stop, is_sign, is_word, pass_sign, pass_word, span_of};
 
@@ -94,22 +94,25 @@ fn more_keys(
     Ok((keys, end))
 }
 
-fn ordered(alloc: Global, tokens: &[Token], at: usize) -> Result<(Items<KeyTree>, usize), Stop>
+fn ordered(alloc: Global, tokens: &[Token], at: usize) -> Result<(OrderTree, usize), Stop>
     ensures { Told tokens.now grammar.ordered at result }
 {
     let behind = pass_word(tokens, at, Keyword::Order)?;
     let behind = pass_word(tokens, behind, Keyword::By)?;
     let (first, behind) = key(alloc, tokens, behind)?;
-    more_keys(alloc, tokens, behind, first)
+    let (keys, end) = more_keys(alloc, tokens, behind, first)?;
+    let whole = span_of(tokens, at, end);
+    Ok((OrderTree { span: whole, keys }, end))
 }
 
-/// The keys of an order, none where there is no order.
-pub fn keys(alloc: Global, tokens: &[Token], at: usize) -> Result<(Items<KeyTree>, usize), Stop>
-    ensures { Told tokens.now grammar.keys at result }
+/// An order and its keys, where it is written.
+pub fn order(alloc: Global, tokens: &[Token], at: usize) -> Result<(Option<OrderTree>, usize), Stop>
+    ensures { Told tokens.now grammar.order at result }
 {
     if is_word(tokens, at, Keyword::Order) {
-        ordered(alloc, tokens, at)
+        let (order, end) = ordered(alloc, tokens, at)?;
+        Ok((Some(order), end))
     } else {
-        Ok((Items::new(alloc), at))
+        Ok((None, at))
     }
 }

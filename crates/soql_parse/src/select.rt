@@ -9,14 +9,14 @@ ghost use Rattle.soql_parse.specs.Queries as grammar;
 
 use crate::binds::Binds;
 use crate::cond::cond;
-use crate::order::keys;
+use crate::order::order;
 use crate::path::path;
 use crate::ranges::range;
 use crate::rule::BindRule;
 use crate::value::count;
 use apex_lexer::{Keyword, Sign, Token};
 use apex_list::{Boxed, Items};
-use apex_syntax::{BindTree, CondTree, CountTree, KeyTree, QueryTree, SelTree, SelectTree, Word};
+use apex_syntax::{BindTree, CondTree, CountTree, OrderTree, QueryTree, SelTree, SelectTree, Word};
 use apex_text::Span;
 use std::alloc::Global;
 use token_grammar::{
@@ -29,7 +29,7 @@ use token_grammar::{
 pub struct FromPart {
     pub object: Word,
     pub cond: Option<CondTree>,
-    pub keys: Items<KeyTree>,
+    pub order: Option<OrderTree>,
     pub limit: Option<CountTree>,
     pub offset: Option<CountTree>,
 }
@@ -89,14 +89,14 @@ fn source<K: BindRule, B: Fn(usize, usize) -> Result<(BindTree, usize), Stop>>(
 {
     let (object, behind) = name(alloc, tokens, at, Names::AllWords)?;
     let (cond, behind) = where_part(alloc, tokens, behind, room, binds)?;
-    let (keys, behind) = keys(alloc, tokens, behind)?;
+    let (order, behind) = order(alloc, tokens, behind)?;
     let (limit, behind) = count_part(alloc, tokens, behind, room, Keyword::Limit, binds)?;
     let (offset, end) = count_part(alloc, tokens, behind, room, Keyword::Offset, binds)?;
     Ok((
         FromPart {
             object,
             cond,
-            keys,
+            order,
             limit,
             offset,
         },
@@ -110,7 +110,7 @@ fn query_tree(span: Span, select: SelectTree, source: FromPart, locked: bool) ->
     let FromPart {
         object,
         cond,
-        keys,
+        order,
         limit,
         offset,
     } = source;
@@ -119,7 +119,7 @@ fn query_tree(span: Span, select: SelectTree, source: FromPart, locked: bool) ->
         select,
         object,
         cond,
-        keys,
+        order,
         limit,
         offset,
         locked,
@@ -370,10 +370,10 @@ fn lock(tokens: &[Token], at: usize, ordered: bool) -> Result<(bool, usize), Sto
     }
 }
 
-fn has_keys(source: &FromPart) -> bool
-    ensures { result ≡ grammar.has_keys source.now.keys }
+fn has_order(source: &FromPart) -> bool
+    ensures { result ≡ grammar.has_order source.now.order }
 {
-    !source.keys.is_empty()
+    source.order.is_some()
 }
 
 /// A query that begins at a token, where `room` more forms may be open: its tree and the place behind it. `binds` reads
@@ -393,7 +393,7 @@ pub fn query_within<K: BindRule, B: Fn(usize, usize) -> Result<(BindTree, usize)
     let (select, behind) = selection(alloc, tokens, behind, room, binds)?;
     let behind = pass_word(tokens, behind, Keyword::From)?;
     let (source, behind) = source(alloc, tokens, behind, room, binds)?;
-    let (locked, end) = lock(tokens, behind, has_keys(&source))?;
+    let (locked, end) = lock(tokens, behind, has_order(&source))?;
     let span = span_of(tokens, at, end);
     Ok((query_tree(span, select, source, locked), end))
 }

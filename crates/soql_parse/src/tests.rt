@@ -188,7 +188,9 @@ fn add_rest(alloc: Global, out: &mut String, query: &QueryTree) -> Result<(), Al
         add(out, " where ")?;
         add_cond(alloc, out, cond)?;
     }
-    add_keys(alloc, out, query.keys.as_slice())?;
+    if let Some(order) = &query.order {
+        add_keys(alloc, out, order.keys.as_slice())?;
+    }
     add_count(alloc, out, " limit ", &query.limit)?;
     add_count(alloc, out, " offset ", &query.offset)?;
     if query.locked {

@@ -1,8 +1,11 @@
-use Rattle.token_grammar.proofs.Chain.{next, halt, past, raised}
+use Rattle.token_grammar.proofs.Chain.{next, halt, past, here, since, gives, raised}
 use Rattle.soql_parse.proofs.order.ordered.Goals as goal
 
 pub returns-in_err-first : goal.returns-in_err-first
-returns-in_err-first c = raised c.from_residual-in_err-first.ensures (past c.in_ok-behind.ensures (past c.in_ok-behind-2.ensures (halt c.in_err-first.ensures)))
+returns-in_err-first c = raised c.from_residual-in_err-first.ensures (here (past c.in_ok-behind.ensures (past c.in_ok-behind-2.ensures (halt c.in_err-first.ensures))))
+
+pub returns-in_err-keys : goal.returns-in_err-keys
+returns-in_err-keys c = raised c.from_residual-in_err-keys.ensures (here (past c.in_ok-behind.ensures (past c.in_ok-behind-2.ensures (next c.in_ok-first.ensures (halt c.in_err-keys.ensures)))))
 
 pub returns : goal.returns
-returns c = past c.in_ok-behind.ensures (past c.in_ok-behind-2.ensures (next c.in_ok-first.ensures (c.more_keys.ensures)))
+returns c = rw c.span_of-whole.ensures (here (past c.in_ok-behind.ensures (past c.in_ok-behind-2.ensures (next c.in_ok-first.ensures (next c.in_ok-keys.ensures (since gives))))))

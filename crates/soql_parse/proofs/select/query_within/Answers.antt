@@ -11,7 +11,7 @@ pub returns-in_err-source : goal.returns-in_err-source
 returns-in_err-source g c = raised c.from_residual-in_err-source.ensures (here (past c.in_ok-behind.ensures (next c.in_ok-select.ensures (past c.in_ok-behind-2.ensures (halt c.in_err-source.ensures)))))
 
 pub returns-in_err-locked : goal.returns-in_err-locked
-returns-in_err-locked g c = raised c.from_residual-in_err-locked.ensures (here (past c.in_ok-behind.ensures (next c.in_ok-select.ensures (past c.in_ok-behind-2.ensures (next c.in_ok-source.ensures (halt (rw c.has_keys.ensures at c.in_err-locked.ensures)))))))
+returns-in_err-locked g c = raised c.from_residual-in_err-locked.ensures (here (past c.in_ok-behind.ensures (next c.in_ok-select.ensures (past c.in_ok-behind-2.ensures (next c.in_ok-source.ensures (halt (rw c.has_order.ensures at c.in_err-locked.ensures)))))))
 
 pub returns : goal.returns
-returns g c = rw c.query_tree.ensures (rw c.span_of-span.ensures (here (past c.in_ok-behind.ensures (next c.in_ok-select.ensures (past c.in_ok-behind-2.ensures (next c.in_ok-source.ensures (next (rw c.has_keys.ensures at c.in_ok-locked.ensures) (since gives))))))))
+returns g c = rw c.query_tree.ensures (rw c.span_of-span.ensures (here (past c.in_ok-behind.ensures (next c.in_ok-select.ensures (past c.in_ok-behind-2.ensures (next c.in_ok-source.ensures (next (rw c.has_order.ensures at c.in_ok-locked.ensures) (since gives))))))))
