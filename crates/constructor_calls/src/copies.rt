@@ -3,11 +3,10 @@
 ghost use Rattle.std.specs.Prelude.{◌≡◌};
 ghost use Rattle.static_types.specs.declared.kind.ValueType.TheViews.{out-ValueType};
 ghost use Rattle.constructor_calls.specs.Copies as spec;
-ghost use Rattle.typed_values.specs.Fits as fits;
 
 use class_heads::ClassHeads;
 use static_types::{Primitive, ValueType};
-use typed_values::{Kind, conversion};
+use typed_values::{Kind, conversion, lists_records};
 
 /// How a collection is made of another value.
 #[derive(Clone, Copy, Debug, PartialEq, Eq, Drop)]
@@ -32,24 +31,6 @@ fn lists_primitives(kind: &ValueType, p: Primitive) -> bool
 {
     match kind {
         ValueType::List(item) => is_primitive(item.get(), p),
-        _ => false,
-    }
-}
-
-fn is_record(kind: &ValueType, object: usize) -> bool
-    ensures { result ≡ fits.is_record (out-ValueType kind.now) object }
-{
-    match kind {
-        ValueType::Record(n) => *n == object,
-        _ => false,
-    }
-}
-
-fn lists_records(kind: &ValueType, object: usize) -> bool
-    ensures { result ≡ fits.lists_records (out-ValueType kind.now) object }
-{
-    match kind {
-        ValueType::List(item) => is_record(item.get(), object),
         _ => false,
     }
 }

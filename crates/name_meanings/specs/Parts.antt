@@ -1,5 +1,6 @@
 -- What goes on with a value: parts of one path stand in one list.
 use Rattle.std.specs.Prelude.{List, [], ◌∷◌, ◌++◌}
+use Rattle.typed_trees.specs.declared.expr.TypedBind.{TypedBind}
 use Rattle.typed_trees.specs.declared.expr.TypedExpr.{TypedExpr}
 use Rattle.typed_trees.specs.declared.expr.TypedExpr.TheOpen.{TypedExpr-F}
 use Rattle.typed_trees.specs.declared.expr.TypedExpr.TheVariants.{Postfix}
@@ -16,7 +17,7 @@ first_part head part = Postfix head (part ∷ [])
 abbrev pub next_part : TypedExpr → List TypedPart → TypedPart → TypedExpr
 next_part head parts part = Postfix head (parts ++ part ∷ [])
 
-abbrev pub grown : TypedExpr → TypedExpr-F TypedExpr TypedNew TypedPart TypedItem TypedOperand TypedPair → TypedPart → TypedExpr
+abbrev pub grown : TypedExpr → TypedExpr-F TypedBind TypedExpr TypedNew TypedPart TypedItem TypedOperand TypedPair → TypedPart → TypedExpr
 grown tree (TypedExpr-F.Postfix head parts) part = next_part head parts part
 grown tree _ part = first_part tree part
 

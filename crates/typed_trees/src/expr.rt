@@ -176,7 +176,16 @@ pub enum TypedExpr {
     /// `System.debug`
     Debug(Boxed<TypedExpr>),
     /// A query, and its binds in the order of the text.
-    Query(Boxed<Query>, Items<TypedExpr>),
+    Query(Boxed<Query>, Items<TypedBind>),
+}
+
+/// A bind of a query.
+#[derive(Debug, Drop)]
+#[cycle(typed)]
+pub enum TypedBind {
+    One(TypedExpr),
+    /// The items of a list or a set, each converted so.
+    Many(Conversion, TypedExpr),
 }
 
 /// What goes on with a value.

@@ -5,6 +5,6 @@ mod expr;
 
 pub use expr::{
     Arithmetic, Assignment, CollectionKind, Constant, Constructor, Conversion, Number, Order,
-    StepKind, TriggerVariable, TypedExpr, TypedItem, TypedNew, TypedOp, TypedOperand, TypedPair,
-    TypedPart,
+    StepKind, TriggerVariable, TypedBind, TypedExpr, TypedItem, TypedNew, TypedOp, TypedOperand,
+    TypedPair, TypedPart,
 };

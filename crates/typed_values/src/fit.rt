@@ -105,8 +105,8 @@ pub fn condition(
     )
 }
 
-// Whether it is a list of the records of this object.
-fn lists_records(kind: &ValueType, object: usize) -> bool
+/// Whether it is a list of the records of this object.
+pub fn lists_records(kind: &ValueType, object: usize) -> bool
     ensures { result ≡ spec.lists_records (out-ValueType kind.now) object }
 {
     match kind {
