@@ -56,9 +56,11 @@ abbrev pub class_constructor : Around → ℕ → ℕ → ℕ → Option ℕ →
 class_constructor a class at count (Some place) = declared_maker a class place at
 class_constructor a class at count None = Gives (undeclared a class count)
 
+abbrev pub constructor_of : Around → ℕ → ℕ → ℕ → Walk Maker
+constructor_of a class at count = class_constructor a class at count (own_place (slice_get a.members class) count)
+
 abbrev pub class_maker : Around → ℕ → ℕ → ℕ → Walk Maker
-class_maker a class at count =
-    cond (has_instances (slice_get a.heads class)) (class_constructor a class at count (own_place (slice_get a.members class) count)) (wrong WrongType at)
+class_maker a class at count = cond (has_instances (slice_get a.heads class)) (constructor_of a class at count) (wrong WrongType at)
 
 -- these are thrown by the platform alone
 abbrev pub exception_maker : ExceptionClass → Maker

@@ -5,5 +5,5 @@ mod copies;
 mod made;
 mod maker;
 
-pub use made::made_with;
-pub use maker::{Maker, maker_of};
+pub use made::{instance_arguments, made_with, message};
+pub use maker::{Maker, constructor_of, maker_of};

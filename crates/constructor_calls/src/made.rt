@@ -18,8 +18,8 @@ use type_names::{TreeFault, WalkFault};
 use typed_trees::{CollectionKind, Constructor, TypedExpr, TypedNew};
 use typed_values::{Kind, Typed};
 
-// Nothing, or a message.
-fn message(
+/// The arguments of an exception's constructor: nothing, or a message. `WrongArguments` at this byte where they don't fit.
+pub fn message(
     alloc: Global,
     lines: &ClassHeads,
     at: usize,
@@ -58,7 +58,8 @@ fn declared_arguments(
     }
 }
 
-fn instance_arguments(
+/// The arguments of a constructor of a class; `WrongArguments` at this byte where they don't fit.
+pub fn instance_arguments(
     alloc: Global,
     setting: &Setting,
     class: usize,

@@ -112,6 +112,23 @@ fn own_constructor(
     }
 }
 
+/// The constructor of a class for so many arguments, named at this byte: a declared one, or one that the class has
+/// without declaring it. `NotVisible` at the byte where it is a private one of another class.
+pub fn constructor_of(
+    alloc: Global,
+    setting: &Setting,
+    class: usize,
+    at: usize,
+    count: usize,
+) -> Result<Maker, WalkFault>
+    ensures { Comes (spec.constructor_of (around setting.now) class at count) result }
+{
+    match own_constructor(alloc, setting.members, class, count)? {
+        Some(place) => Ok(declared(setting, class, place, at)?),
+        None => Ok(undeclared(setting, class, count)),
+    }
+}
+
 fn class_maker(
     alloc: Global,
     setting: &Setting,
@@ -124,10 +141,7 @@ fn class_maker(
     if !has_instances(setting.lines, class) {
         return Err(TreeFault::new(FaultWord::WrongType, at).into());
     }
-    match own_constructor(alloc, setting.members, class, count)? {
-        Some(place) => Ok(declared(setting, class, place, at)?),
-        None => Ok(undeclared(setting, class, count)),
-    }
+    constructor_of(alloc, setting, class, at, count)
 }
 
 // Some built-in exceptions are thrown by the platform alone.

@@ -2,9 +2,9 @@
 use Rattle.std.specs.Prelude.{List, [], ◌∷◌, ◌++◌}
 use Rattle.typed_trees.specs.declared.expr.TypedBind.{TypedBind}
 use Rattle.typed_trees.specs.declared.expr.TypedExpr.{TypedExpr}
-use Rattle.typed_trees.specs.declared.expr.TypedExpr.TheOpen.{TypedExpr-F}
+use Rattle.typed_trees.specs.declared.expr.TypedBind.TheOpen.{TypedExpr-F}
 use Rattle.typed_trees.specs.declared.expr.TypedExpr.TheVariants.{Postfix}
-use Rattle.typed_trees.specs.declared.expr.TypedExpr.TheViews.{out-TypedExpr}
+use Rattle.typed_trees.specs.declared.expr.TypedBind.TheViews.{out-TypedExpr}
 use Rattle.typed_trees.specs.declared.expr.TypedItem.{TypedItem}
 use Rattle.typed_trees.specs.declared.expr.TypedNew.{TypedNew}
 use Rattle.typed_trees.specs.declared.expr.TypedOperand.{TypedOperand}

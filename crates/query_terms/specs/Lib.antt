@@ -1,0 +1,5 @@
+pub mod Sources
+pub mod Paths
+pub mod Values
+pub mod Binds
+pub mod OpenQueries

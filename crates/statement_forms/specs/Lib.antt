@@ -1,0 +1,4 @@
+pub mod Locals
+pub mod Saves
+pub mod Flows
+pub mod Constructions
