@@ -1,15 +1,11 @@
 //! Reads classes and triggers, one line each, with ` | ` between them, each a name, a blank and its text, and checks the
 //! statements of the last body of the last one: it prints the type of each expression, and behind `=` its tree where the
 //! line begins with `tree `, or the first fault, with its word and its byte. Where the line begins with `call `, each
-//! statement is a call, and what it means is printed. In these lines, other statements than declarations and expressions
-//! aren't walked. Where the line begins with `body `, the typed statements of the whole body are printed. There are the
-//! objects Account, Invoice__c and Line__c.
+//! statement is a call, and what it means is printed. Indices, `new` with fields or items, queries and other statements
+//! than declarations and expressions aren't walked. There are the objects Account, Invoice__c and Line__c.
 #![tactic(auto)]
 
-mod body;
-mod query;
 mod shown;
-mod stmts;
 mod tree;
 mod walk;
 
@@ -123,9 +119,6 @@ fn trees_line(
 fn asked_of(line: &str) -> (&str, Asked) {
     if let Some(text) = line.strip_prefix("tree ") {
         return (text, Asked::Trees);
-    }
-    if let Some(text) = line.strip_prefix("body ") {
-        return (text, Asked::Bodies);
     }
     match line.strip_prefix("call ") {
         Some(text) => (text, Asked::Calls),

@@ -4,9 +4,9 @@ use static_types::ValueType;
 use std::alloc::AllocError;
 use typed_values::Kind;
 
-/// Adds a type to a line; objects and classes are printed as their numbers.
+// A type; objects and classes are printed as their numbers.
 #[cycle(add_type)]
-pub fn add_type(line: &mut String, kind: &ValueType) -> Result<(), AllocError> {
+fn add_type(line: &mut String, kind: &ValueType) -> Result<(), AllocError> {
     match kind {
         ValueType::Primitive(p) => write!(line, "{p:?}"),
         ValueType::List(item) => {

@@ -1,8 +1,7 @@
 // Typed trees as they are printed.
 
-use crate::query::add_query;
 use std::alloc::AllocError;
-use typed_trees::{Constant, TypedBind, TypedExpr, TypedNew, TypedPart};
+use typed_trees::{Constant, TypedExpr, TypedNew, TypedPart};
 
 fn add_constant(line: &mut String, constant: &Constant) -> Result<(), AllocError> {
     match constant {
@@ -35,22 +34,7 @@ fn add_part(line: &mut String, part: &TypedPart) -> Result<(), AllocError> {
             write!(line, ".{builtin:?}")?;
             add_trees(line, args.as_slice())
         }
-        TypedPart::Index(index) => {
-            line.push('[')?;
-            add_tree(line, index)?;
-            line.push(']')
-        }
-    }
-}
-
-#[cycle(tree)]
-fn add_bind(line: &mut String, bind: &TypedBind) -> Result<(), AllocError> {
-    match bind {
-        TypedBind::One(value) => add_tree(line, value),
-        TypedBind::Many(how, value) => {
-            write!(line, "{how:?} each ")?;
-            add_tree(line, value)
-        }
+        TypedPart::Index(_) => line.push_str("..."),
     }
 }
 
@@ -78,29 +62,12 @@ fn add_new(line: &mut String, tree: &TypedNew) -> Result<(), AllocError> {
             write!(line, "new {}", class.name())?;
             add_trees(line, args.as_slice())
         }
-        TypedNew::Record(object, fields) => {
-            write!(line, "record{object}(")?;
-            for pair in fields.as_slice() {
-                write!(line, "{}=", pair.field)?;
-                add_tree(line, &pair.value)?;
-                line.push(';')?;
-            }
-            line.push(')')
-        }
+        TypedNew::Record(object, fields) => write!(line, "record{object}:{}", fields.len()),
         TypedNew::Collection(kind, items) => {
             write!(line, "new {kind:?}")?;
             add_trees(line, items.as_slice())
         }
-        TypedNew::Map(key, items) => {
-            write!(line, "new Map({key:?})(")?;
-            for item in items.as_slice() {
-                add_tree(line, &item.key)?;
-                line.push_str("=>")?;
-                add_tree(line, &item.value)?;
-                line.push(';')?;
-            }
-            line.push(')')
-        }
+        TypedNew::Map(key, items) => write!(line, "new Map({key:?}):{}", items.len()),
         TypedNew::Copy(kind, other) => {
             write!(line, "copy {kind:?} ")?;
             add_tree(line, other.get())
@@ -201,14 +168,6 @@ pub fn add_tree(line: &mut String, tree: &TypedExpr) -> Result<(), AllocError> {
             line.push_str("debug ")?;
             add_tree(line, value.get())
         }
-        TypedExpr::Query(query, binds) => {
-            line.push('[')?;
-            add_query(line, query.get())?;
-            for bind in binds.as_slice() {
-                line.push_str(" :")?;
-                add_bind(line, bind)?;
-            }
-            line.push(']')
-        }
+        TypedExpr::Query(..) => line.push_str("..."),
     }
 }

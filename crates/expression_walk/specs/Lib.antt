@@ -1,4 +1,0 @@
-pub mod Views
-pub mod Leaves
-pub mod Expressions
-pub mod Gatherings

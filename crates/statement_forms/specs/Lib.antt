@@ -1,4 +1,0 @@
-pub mod Locals
-pub mod Saves
-pub mod Flows
-pub mod Constructions

@@ -1,3 +1,0 @@
-pub mod Scenes
-pub mod Simples
-pub mod Statements

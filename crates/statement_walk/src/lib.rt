@@ -1,9 +1,0 @@
-//! The walk over statements: each with its typed tree, or the first fault.
-#![tactic(auto)]
-
-mod simple;
-mod view;
-mod walk;
-
-pub use view::{BodyView, Inside};
-pub use walk::{statement, statements};
