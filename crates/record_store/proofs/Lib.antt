@@ -1,0 +1,2 @@
+pub mod HeapSteps
+pub mod Steps

@@ -1,0 +1,8 @@
+use Rattle.std.proofs.Common.{◌≡◌, map}
+use Rattle.std.specs.Map.Iter.{deref_pair}
+use Rattle.apex_schema.specs.Stores.{answer}
+use Rattle.record_store.specs.Places.{rows_of}
+use Rattle.record_store.proofs.rows.TenantRows.read.Given as goal
+
+abbrev pub invariant-loop-slot : goal.invariant-loop-slot
+invariant-loop-slot l = l.rows ≡ answer (rows_of (map deref_pair l.yielded)) l.object l.cond

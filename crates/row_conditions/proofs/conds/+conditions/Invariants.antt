@@ -1,0 +1,11 @@
+use Rattle.std.proofs.Common.{◌≡◌, drop}
+use Rattle.std.specs.List.{list_all, list_any}
+use Rattle.apex_schema.specs.declared.query.Cond.{Cond}
+use Rattle.apex_schema.specs.Conds.{holds_of}
+use Rattle.row_conditions.proofs.conds.+conditions.Given as goal
+
+abbrev pub invariant-all_hold-loop-cond : goal.invariant-all_hold-loop-cond
+invariant-all_hold-loop-cond l = list_all (λ (c : Cond). holds_of c l.row) (drop l.cond-index l.conds) ≡ list_all (λ (c : Cond). holds_of c l.row) l.conds
+
+abbrev pub invariant-one_holds-loop-cond : goal.invariant-one_holds-loop-cond
+invariant-one_holds-loop-cond l = list_any (λ (c : Cond). holds_of c l.row) (drop l.cond-index l.conds) ≡ list_any (λ (c : Cond). holds_of c l.row) l.conds

@@ -1,0 +1,4 @@
+pub mod Failing
+pub mod Samples
+pub mod Counting
+pub mod Locals

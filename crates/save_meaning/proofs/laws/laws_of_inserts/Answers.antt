@@ -1,0 +1,9 @@
+use Rattle.std.proofs.Common.{refl}
+use Rattle.save_meaning.specs.Laws.{alone}
+use Rattle.save_meaning.proofs.Failing.{failed_insert}
+use Rattle.save_meaning.proofs.laws.laws_of_inserts.Goals as goal
+
+pub returns : goal.returns
+returns c = record {
+  failed = λ schema session request user object rows t later why e. failed_insert alone (record { same = λ u s. refl }) schema session request user object rows t later why e;
+}

@@ -1,0 +1,5 @@
+pub mod Transactions
+pub mod Drafts
+pub mod Inserts
+pub mod Counts
+pub mod Laws

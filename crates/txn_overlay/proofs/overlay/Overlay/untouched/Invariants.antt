@@ -1,0 +1,7 @@
+use Rattle.std.proofs.Common.{◌≡◌, ◌++◌}
+use Rattle.apex_schema.specs.Overlays.{touched_ids}
+use Rattle.apex_schema.specs.Stores.{without}
+use Rattle.txn_overlay.proofs.overlay.Overlay.untouched.Given as goal
+
+abbrev pub invariant-loop-row : goal.invariant-loop-row
+invariant-loop-row l = (l.rows.items ++ without (touched_ids l.self) l.row-iterator.rest.items ≡ without (touched_ids l.self) l.fn.answered.items)

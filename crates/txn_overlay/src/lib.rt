@@ -1,0 +1,8 @@
+//! The overlay of a transaction: what it changed and hasn't committed, over what the store answers (docs/platform.md,
+//! "Overlays").
+#![tactic(auto)]
+
+mod merge;
+mod overlay;
+
+pub use overlay::{Change, Overlay};
