@@ -13,6 +13,3 @@ mod words;
 pub use lexeme::{LexWord, Lexeme};
 pub use lexer::{LexFault, lex};
 pub use token::{Keyword, Reserved, Sign, Token, TokenKind};
-
-#[cfg(test)]
-mod tests;

@@ -21,10 +21,3 @@ pub use casts::is_cast;
 pub use part::{Level, Part};
 pub use read::{args_within, expr, expr_within};
 pub use types::{member, type_tree};
-
-#[cfg(test)]
-mod expr_tests;
-#[cfg(test)]
-mod shown;
-#[cfg(test)]
-mod tests;

@@ -17,6 +17,3 @@ pub use declare::initial;
 pub use look::is_named;
 pub use part::{ForHead, Ways};
 pub use read::{anonymous_unit, body_within, pass_end, stmt_within};
-
-#[cfg(test)]
-mod tests;

@@ -14,8 +14,3 @@ mod whole;
 pub use apex_parse_stmt::anonymous_unit;
 pub use kind::{UnitKind, unit_kind};
 pub use whole::{class_unit, trigger_unit};
-
-#[cfg(test)]
-mod shown;
-#[cfg(test)]
-mod tests;

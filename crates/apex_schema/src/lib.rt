@@ -42,8 +42,3 @@ pub use rule::{Rule, RuleOp, RuleTerm};
 pub use schema::{
     Access, Field, FieldKind, Link, Mode, Object, Role, Rollup, RollupBy, RuleHead, Schema, User,
 };
-
-#[cfg(test)]
-mod build_tests;
-#[cfg(test)]
-mod tests;

@@ -13,6 +13,3 @@ mod value;
 pub use binds::Binds;
 pub use rule::BindRule;
 pub use select::{query, query_within};
-
-#[cfg(test)]
-mod tests;

@@ -1,22 +1,16 @@
 // Units as texts. Of a tree its names, words and parts are shown; types, values and bodies are shown as their bytes in
 // the text.
 
+use crate::shown::{add, add_span, fault_shown, span_of, span_shown};
+use apex_lexer::lex;
+use apex_parse_unit::{UnitKind, class_unit, trigger_unit, unit_kind};
 use apex_syntax::{
     Body, ClassTree, ClassWord, EventOp, EventTree, Expr, InterfaceTree, MemberTree, MemberWord,
-    ParamTree, ResultTree, SignatureTree, TriggerTree, TypeTree, Unit, Word,
+    ParamTree, ResultTree, SignatureTree, TriggerTree, TypeTree, Unit, Word, depth,
 };
 use apex_text::Span;
 use std::alloc::{AllocError, Global};
 use token_grammar::ParseFault;
-
-pub fn add(out: &mut String, text: &str) -> Result<(), AllocError> {
-    out.push_str(text)?;
-    Ok(())
-}
-
-fn add_span(out: &mut String, text: &str, span: Span) -> Result<(), AllocError> {
-    add(out, text.get(span.from..span.to).unwrap_or("?"))
-}
 
 fn add_word(out: &mut String, word: &Word) -> Result<(), AllocError> {
     add(out, str::from_utf8(word.name.bytes()).unwrap_or("?"))
@@ -46,25 +40,6 @@ fn class_word(word: ClassWord) -> &'static str {
         ClassWord::WithSharing => "sharing ",
         ClassWord::WithoutSharing => "unshared ",
         ClassWord::InheritedSharing => "inherited ",
-    }
-}
-
-fn span_of(tree: &Expr) -> Span {
-    match tree {
-        Expr::Literal(span, _)
-        | Expr::This(span)
-        | Expr::Super(span)
-        | Expr::Call(span, _, _)
-        | Expr::Paren(span, _)
-        | Expr::New(span, _, _)
-        | Expr::Query(span, _)
-        | Expr::Postfix(span, _, _)
-        | Expr::Prefix(span, _, _)
-        | Expr::Cast(span, _, _)
-        | Expr::Chain(span, _, _)
-        | Expr::Conditional(span, _, _, _)
-        | Expr::Assign(span, _, _, _) => *span,
-        Expr::Name(word) => word.span,
     }
 }
 
@@ -204,16 +179,6 @@ fn add_trigger(out: &mut String, text: &str, tree: &TriggerTree) -> Result<(), A
     add_span(out, text, tree.body.span)
 }
 
-fn fault_shown(alloc: Global, fault: ParseFault) -> Result<String, AllocError> {
-    match fault {
-        ParseFault::Wrong(word, span) => {
-            let Span { from, to } = span;
-            format!(in alloc; "{word} {from}-{to}")
-        }
-        ParseFault::NoMemory => Err(AllocError),
-    }
-}
-
 fn unit_shown(alloc: Global, text: &str, unit: &Unit) -> Result<String, AllocError> {
     let mut out = String::new(alloc);
     match unit {
@@ -225,13 +190,101 @@ fn unit_shown(alloc: Global, text: &str, unit: &Unit) -> Result<String, AllocErr
     Ok(out)
 }
 
-pub fn shown(
+fn unit_result(
     alloc: Global,
     text: &str,
     unit: Result<Unit, ParseFault>,
 ) -> Result<String, AllocError> {
     match unit {
         Ok(tree) => unit_shown(alloc, text, &tree),
+        Err(fault) => fault_shown(alloc, fault),
+    }
+}
+
+pub fn class_shown(alloc: Global, text: &str) -> Result<String, AllocError> {
+    let Ok(tokens) = lex(alloc, text.as_bytes()) else {
+        return format!(in alloc; "no tokens");
+    };
+    unit_result(alloc, text, class_unit(alloc, tokens.as_slice()))
+}
+
+pub fn trigger_shown(alloc: Global, text: &str) -> Result<String, AllocError> {
+    let Ok(tokens) = lex(alloc, text.as_bytes()) else {
+        return format!(in alloc; "no tokens");
+    };
+    unit_result(alloc, text, trigger_unit(alloc, tokens.as_slice()))
+}
+
+// The kind of unit that a text begins.
+pub fn kind_shown(alloc: Global, text: &str) -> Result<String, AllocError> {
+    let Ok(tokens) = lex(alloc, text.as_bytes()) else {
+        return format!(in alloc; "no tokens");
+    };
+    match unit_kind(tokens.as_slice()) {
+        UnitKind::Class => format!(in alloc; "class"),
+        UnitKind::Interface => format!(in alloc; "interface"),
+        UnitKind::Trigger => format!(in alloc; "trigger"),
+    }
+}
+
+// How many forms are open at once in a unit, or its fault.
+pub fn depth_shown(alloc: Global, text: &str) -> Result<String, AllocError> {
+    let Ok(tokens) = lex(alloc, text.as_bytes()) else {
+        return format!(in alloc; "no tokens");
+    };
+    let unit = if text.starts_with("trigger") {
+        trigger_unit(alloc, tokens.as_slice())
+    } else {
+        class_unit(alloc, tokens.as_slice())
+    };
+    match unit {
+        Ok(tree) => format!(in alloc; "{}", depth(&tree)),
+        Err(fault) => fault_shown(alloc, fault),
+    }
+}
+
+fn add_place(alloc: Global, out: &mut String, span: Span) -> Result<(), AllocError> {
+    let place = span_shown(alloc, span)?;
+    add(out, " ")?;
+    add(out, place.as_str())
+}
+
+fn add_places(alloc: Global, out: &mut String, member: &MemberTree) -> Result<(), AllocError> {
+    match member {
+        MemberTree::Field(span, ..)
+        | MemberTree::Property(span, ..)
+        | MemberTree::Constructor(span, ..) => add_place(alloc, out, *span),
+        MemberTree::Method(span, _, answer, _, params, _) => {
+            add_place(alloc, out, *span)?;
+            match answer {
+                ResultTree::Void(span) => add_place(alloc, out, *span)?,
+                ResultTree::Type(kind) => add_place(alloc, out, kind.span)?,
+            }
+            for param in params.as_slice() {
+                add_place(alloc, out, param.span)?;
+            }
+            Ok(())
+        }
+    }
+}
+
+// The bytes of a class, of its words and members, and of a method's result and parameters.
+pub fn places_shown(alloc: Global, text: &str) -> Result<String, AllocError> {
+    let Ok(tokens) = lex(alloc, text.as_bytes()) else {
+        return format!(in alloc; "no tokens");
+    };
+    match class_unit(alloc, tokens.as_slice()) {
+        Ok(Unit::Class(tree)) => {
+            let mut out = span_shown(alloc, tree.span)?;
+            for modifier in tree.modifiers.as_slice() {
+                add_place(alloc, &mut out, modifier.span)?;
+            }
+            for member in tree.members.as_slice() {
+                add_places(alloc, &mut out, member)?;
+            }
+            Ok(out)
+        }
+        Ok(_) => format!(in alloc; "no class"),
         Err(fault) => fault_shown(alloc, fault),
     }
 }

@@ -1,10 +1,9 @@
 // Copies of one value of each kind.
 
-use super::*;
 use apex_list::{Boxed, Items};
 use apex_num::{Cell, Dec, Id, LimitKind, Text, read_id};
+use apex_schema::*;
 use std::alloc::{AllocError, Global};
-use std::test::Fail;
 
 fn text(alloc: Global, words: &str) -> Result<Text, AllocError> {
     Text::from_str(alloc, words)
@@ -99,17 +98,6 @@ fn row(alloc: Global, id: Id) -> Result<Row, AllocError> {
     })
 }
 
-// What a value and its copy are, as texts.
-macro_rules! same {
-    ($rt:expr, $value:expr) => {{
-        let value = $value;
-        let copy = value.copy()?;
-        let a = format!(in $rt.alloc(); "{value:?}")?;
-        let b = format!(in $rt.alloc(); "{copy:?}")?;
-        assert_eq!($rt; a.as_str(), b.as_str());
-    }};
-}
-
 fn schema(alloc: Global) -> Result<Schema, AllocError> {
     let role = Role {
         name: text(alloc, "head")?,
@@ -126,12 +114,6 @@ fn schema(alloc: Global) -> Result<Schema, AllocError> {
     })
 }
 
-#[test]
-fn schemas(rt: HostRuntime) -> Result<(), Fail> {
-    same!(rt, schema(rt.alloc())?);
-    Ok(())
-}
-
 fn nested(alloc: Global) -> Result<Query, AllocError> {
     let mut outer = query(alloc)?;
     outer.children.push(SubQuery {
@@ -141,29 +123,11 @@ fn nested(alloc: Global) -> Result<Query, AllocError> {
     Ok(outer)
 }
 
-#[test]
-fn queries(rt: HostRuntime) -> Result<(), Fail> {
-    same!(rt, nested(rt.alloc())?);
-    Ok(())
-}
-
-#[test]
-fn binds(rt: HostRuntime) -> Result<(), Fail> {
-    same!(rt, Bind::Many(one(rt.alloc(), Cell::Null)?));
-    Ok(())
-}
-
 fn read(alloc: Global) -> Result<Question, AllocError> {
     Ok(Question::Read {
         object: 1,
         cond: cond(alloc)?,
     })
-}
-
-#[test]
-fn questions(rt: HostRuntime) -> Result<(), Fail> {
-    same!(rt, read(rt.alloc())?);
-    Ok(())
 }
 
 fn id() -> Result<Id, AllocError> {
@@ -195,22 +159,6 @@ fn writes(alloc: Global) -> Result<Writes, AllocError> {
     })
 }
 
-#[test]
-fn rows(rt: HostRuntime) -> Result<(), Fail> {
-    same!(rt, found(rt.alloc())?);
-    same!(rt, writes(rt.alloc())?);
-    Ok(())
-}
-
-#[test]
-fn answers(rt: HostRuntime) -> Result<(), Fail> {
-    let rows = one(rt.alloc(), row(rt.alloc(), id()?)?)?;
-    same!(rt, Answer::Rows(rows));
-    let ids = one(rt.alloc(), id()?)?;
-    same!(rt, Question::Grab { ids });
-    Ok(())
-}
-
 fn save(alloc: Global) -> Result<SaveRow, AllocError> {
     Ok(SaveRow {
         key: 0,
@@ -233,32 +181,11 @@ fn request(alloc: Global) -> Result<Request, AllocError> {
     })
 }
 
-#[test]
-fn requests(rt: HostRuntime) -> Result<(), Fail> {
-    same!(rt, request(rt.alloc())?);
-    Ok(())
-}
-
 fn failed(alloc: Global) -> Result<SaveResult, AllocError> {
     Ok(SaveResult::Failed(SaveError {
         code: text(alloc, "MISSING_ARGUMENT")?,
         message: text(alloc, "Id not specified")?,
     }))
-}
-
-#[test]
-fn results(rt: HostRuntime) -> Result<(), Fail> {
-    same!(rt, failed(rt.alloc())?);
-    same!(
-        rt,
-        Context {
-            op: Op::Insert,
-            before: true,
-            news: Items::new(rt.alloc()),
-            olds: Items::new(rt.alloc())
-        }
-    );
-    Ok(())
 }
 
 fn dec() -> Result<Dec, AllocError> {
@@ -291,19 +218,120 @@ fn fault(alloc: Global) -> Result<Fault, AllocError> {
     })
 }
 
-#[test]
-fn replies(rt: HostRuntime) -> Result<(), Fail> {
-    let kind = EventKind::End(reply(rt.alloc())?);
-    same!(rt, Event { session: 0, kind });
-    Ok(())
+fn context(alloc: Global) -> Context {
+    Context {
+        op: Op::Insert,
+        before: true,
+        news: Items::new(alloc),
+        olds: Items::new(alloc),
+    }
 }
 
-#[test]
-fn faults(rt: HostRuntime) -> Result<(), Fail> {
-    let fault = fault(rt.alloc())?;
-    let word = format!(in rt.alloc(); "{}", fault.word)?;
-    assert_eq!(rt; word.as_str(), "Duplicate");
-    same!(rt, Outcome::Refused(fault));
-    same!(rt, Outcome::Limit(LimitKind::Steps, 1_000_001));
-    Ok(())
+// What a value and its copy are, as texts.
+macro_rules! same {
+    ($alloc:expr, $value:expr) => {{
+        let value = $value;
+        let copy = value.copy()?;
+        let one = format!(in $alloc; "{value:?}")?;
+        let other = format!(in $alloc; "{copy:?}")?;
+        if one.as_str() == other.as_str() {
+            String::from_str($alloc, "same")
+        } else {
+            format!(in $alloc; "{one} isn't {other}")
+        }
+    }};
+}
+
+fn schema_copied(alloc: Global) -> Result<String, AllocError> {
+    same!(alloc, schema(alloc)?)
+}
+
+fn query_copied(alloc: Global) -> Result<String, AllocError> {
+    same!(alloc, nested(alloc)?)
+}
+
+fn bind_copied(alloc: Global) -> Result<String, AllocError> {
+    same!(alloc, Bind::Many(one(alloc, Cell::Null)?))
+}
+
+fn read_copied(alloc: Global) -> Result<String, AllocError> {
+    same!(alloc, read(alloc)?)
+}
+
+fn grab_copied(alloc: Global) -> Result<String, AllocError> {
+    same!(
+        alloc,
+        Question::Grab {
+            ids: one(alloc, id()?)?
+        }
+    )
+}
+
+fn found_copied(alloc: Global) -> Result<String, AllocError> {
+    same!(alloc, found(alloc)?)
+}
+
+fn writes_copied(alloc: Global) -> Result<String, AllocError> {
+    same!(alloc, writes(alloc)?)
+}
+
+fn answer_copied(alloc: Global) -> Result<String, AllocError> {
+    same!(alloc, Answer::Rows(one(alloc, row(alloc, id()?)?)?))
+}
+
+fn request_copied(alloc: Global) -> Result<String, AllocError> {
+    same!(alloc, request(alloc)?)
+}
+
+fn failed_copied(alloc: Global) -> Result<String, AllocError> {
+    same!(alloc, failed(alloc)?)
+}
+
+fn context_copied(alloc: Global) -> Result<String, AllocError> {
+    same!(alloc, context(alloc))
+}
+
+fn event_copied(alloc: Global) -> Result<String, AllocError> {
+    same!(
+        alloc,
+        Event {
+            session: 0,
+            kind: EventKind::End(reply(alloc)?)
+        }
+    )
+}
+
+fn refused_copied(alloc: Global) -> Result<String, AllocError> {
+    same!(alloc, Outcome::Refused(fault(alloc)?))
+}
+
+fn limit_copied(alloc: Global) -> Result<String, AllocError> {
+    same!(alloc, Outcome::Limit(LimitKind::Steps, 1_000_001))
+}
+
+// Whether the copy of a value of a kind is the value.
+pub fn copied(alloc: Global, kind: &str) -> Result<String, AllocError> {
+    match kind {
+        "schema" => schema_copied(alloc),
+        "query" => query_copied(alloc),
+        "bind" => bind_copied(alloc),
+        "read" => read_copied(alloc),
+        "grab" => grab_copied(alloc),
+        "found" => found_copied(alloc),
+        "writes" => writes_copied(alloc),
+        "answer" => answer_copied(alloc),
+        "request" => request_copied(alloc),
+        "failed" => failed_copied(alloc),
+        "context" => context_copied(alloc),
+        "event" => event_copied(alloc),
+        "refused" => refused_copied(alloc),
+        "limit" => limit_copied(alloc),
+        _ => String::from_str(alloc, "no such kind"),
+    }
+}
+
+// A fault's word as it is printed.
+pub fn word(alloc: Global) -> Result<String, AllocError> {
+    let fault = fault(alloc)?;
+    format!(in alloc; "{}", fault.word)
 }

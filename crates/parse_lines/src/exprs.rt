@@ -1,19 +1,16 @@
 // Trees as texts. What is one tree stands between braces, but for what has a sign of its own: an expression in
 // parentheses, a query in brackets, and what is one token. Names are folded.
 
+use crate::shown::{add, add_rest, fault_shown, span_of, span_shown};
+use apex_lexer::lex;
+use apex_parse_expr::{expr, is_cast, type_tree};
 use apex_syntax::{
     AssignOp, BinaryOp, BindTree, CondTree, CountTree, Expr, FieldValue, ListTree, Literal,
     NewItem, NewPart, NumberTree, Operand, PostfixPart, PrefixOp, QueryTree, SelTree, SelectTree,
     StepOp, TypeTree, ValueTree, Word,
 };
-use apex_text::Span;
 use std::alloc::{AllocError, Global};
-use token_grammar::ParseFault;
-
-pub fn add(out: &mut String, text: &str) -> Result<(), AllocError> {
-    out.push_str(text)?;
-    Ok(())
-}
+use token_grammar::fault_of;
 
 pub fn add_word(out: &mut String, word: &Word) -> Result<(), AllocError> {
     add(out, str::from_utf8(word.name.bytes()).unwrap_or("?"))
@@ -366,13 +363,73 @@ pub fn add_expr(alloc: Global, out: &mut String, tree: &Expr) -> Result<(), Allo
     }
 }
 
-/// A fault with the bytes where it stands.
-pub fn fault_shown(alloc: Global, fault: ParseFault) -> Result<String, AllocError> {
-    match fault {
-        ParseFault::Wrong(word, span) => {
-            let Span { from, to } = span;
-            format!(in alloc; "{word} {from}-{to}")
+// The tree of a type with what follows it, where that isn't `x`, or its fault.
+pub fn type_shown(alloc: Global, text: &str) -> Result<String, AllocError> {
+    let Ok(tokens) = lex(alloc, text.as_bytes()) else {
+        return format!(in alloc; "no tokens");
+    };
+    match type_tree(alloc, tokens.as_slice(), 0, 64) {
+        Ok((tree, end)) => {
+            let mut out = String::new(alloc);
+            add_type(&mut out, &tree)?;
+            let rest = tokens.get(end).map(|token| token.span.from);
+            add_rest(&mut out, text, rest, "x")?;
+            Ok(out)
         }
-        ParseFault::NoMemory => Err(AllocError),
+        Err(stop) => fault_shown(alloc, fault_of(tokens.as_slice(), stop)),
+    }
+}
+
+// Whether a cast begins a text.
+pub fn cast_shown(alloc: Global, text: &str) -> Result<String, AllocError> {
+    let Ok(tokens) = lex(alloc, text.as_bytes()) else {
+        return format!(in alloc; "no tokens");
+    };
+    if is_cast(alloc, tokens.as_slice(), 0, 64)? {
+        format!(in alloc; "cast")
+    } else {
+        format!(in alloc; "no cast")
+    }
+}
+
+// The tree of an expression with what follows it, where that isn't `;`, or its fault.
+pub fn expr_shown(alloc: Global, text: &str) -> Result<String, AllocError> {
+    let Ok(tokens) = lex(alloc, text.as_bytes()) else {
+        return format!(in alloc; "no tokens");
+    };
+    match expr(alloc, tokens.as_slice(), 0) {
+        Ok((tree, end)) => {
+            let mut out = String::new(alloc);
+            add_expr(alloc, &mut out, &tree)?;
+            let rest = tokens.get(end).map(|token| token.span.from);
+            add_rest(&mut out, text, rest, ";")?;
+            Ok(out)
+        }
+        Err(fault) => fault_shown(alloc, fault),
+    }
+}
+
+// Whether a text is an expression up to its `;`, or its fault.
+pub fn is_read(alloc: Global, text: &str) -> Result<String, AllocError> {
+    let Ok(tokens) = lex(alloc, text.as_bytes()) else {
+        return format!(in alloc; "no tokens");
+    };
+    match expr(alloc, tokens.as_slice(), 0) {
+        Ok((_, end)) => match tokens.get(end) {
+            Some(token) if token.span.to == text.len() => format!(in alloc; "read"),
+            _ => format!(in alloc; "read in part"),
+        },
+        Err(fault) => fault_shown(alloc, fault),
+    }
+}
+
+// The bytes of an expression.
+pub fn place_shown(alloc: Global, text: &str) -> Result<String, AllocError> {
+    let Ok(tokens) = lex(alloc, text.as_bytes()) else {
+        return format!(in alloc; "no tokens");
+    };
+    match expr(alloc, tokens.as_slice(), 0) {
+        Ok((tree, _)) => span_shown(alloc, span_of(&tree)),
+        Err(fault) => fault_shown(alloc, fault),
     }
 }
