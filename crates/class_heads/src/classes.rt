@@ -82,6 +82,14 @@ impl<'a> Classes<'a> {
         &self.lines
     }
 
+    /// The heads of the classes and interfaces, alone.
+    pub fn into_heads(self) -> Items<ClassHead>
+        ensures { result ≡ spec.heads_of self.entry.objects.now.names.items self.entry.units.now }
+    {
+        let Classes { lines, .. } = self;
+        lines.into_heads()
+    }
+
     /// The names of the units, by their places.
     pub fn unit_places(&self) -> &Places
         ensures { result.now.names.items ≡ map spec.unit_name self.now.units.now }

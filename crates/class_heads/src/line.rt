@@ -87,6 +87,14 @@ impl ClassHeads {
         Ok(ClassHeads { heads, pairs })
     }
 
+    /// The heads, alone.
+    pub fn into_heads(self) -> Items<ClassHead>
+        ensures { result ≡ self.heads }
+    {
+        let ClassHeads { heads, .. } = self;
+        heads
+    }
+
     /// What the class with this number extends.
     pub fn parent(&self, class: usize) -> Parent
         ensures { result ≡ spec.parent_at self.now.heads class }

@@ -1,7 +1,8 @@
 // The walk over what classes declare.
 
 use apex_list::Items;
-use apex_syntax::{ClassTree, InterfaceTree, MemberTree, Unit};
+use apex_syntax::{ClassTree, InterfaceTree, MemberTree, ParamTree, ResultTree, Unit, Word};
+use apex_text::Name;
 use class_heads::{Classes, class_header, unit_name};
 use class_members::MemberTables;
 use member_walk::{
@@ -11,7 +12,7 @@ use method_overrides::override_fault;
 use static_types::ValueType;
 use std::alloc::Global;
 use trigger_headers::trigger_header;
-use type_names::WalkFault;
+use type_names::{TypeNames, WalkFault};
 
 /// What is known of all classes.
 #[derive(Drop)]
@@ -40,6 +41,31 @@ fn overrides(ground: &Ground, class: usize, number: usize, at: usize) -> Result<
     }
 }
 
+fn signature(
+    alloc: Global,
+    names: &TypeNames,
+    answer: &ResultTree,
+    word: &Word,
+    params: &[ParamTree],
+    twice: bool,
+) -> Result<(), WalkFault> {
+    signature_declared(alloc, names, answer, word, params, twice)?;
+    Ok(())
+}
+
+fn constructor(
+    alloc: Global,
+    names: &TypeNames,
+    own: &Name,
+    is_exception: bool,
+    word: &Word,
+    params: &[ParamTree],
+    twice: bool,
+) -> Result<(), WalkFault> {
+    constructor_declared(alloc, names, own, is_exception, word, params, twice)?;
+    Ok(())
+}
+
 fn class_types(
     alloc: Global,
     ground: &Ground,
@@ -64,14 +90,14 @@ fn class_types(
                 types.push(field_declared(alloc, &names, kind, word, twice)?)?;
             }
             MemberTree::Method(_, _, answer, word, params, _) => {
-                signature_declared(alloc, &names, answer, word, params.as_slice(), twice)?;
+                signature(alloc, &names, answer, word, params.as_slice(), twice)?;
                 overrides(ground, class, methods, word.span.from)?;
                 methods = methods.saturating_add(1);
             }
             MemberTree::Constructor(_, _, word, params, _) => {
                 let own = &tree.name.name;
                 let params = params.as_slice();
-                constructor_declared(alloc, &names, own, is_exception, word, params, twice)?;
+                constructor(alloc, &names, own, is_exception, word, params, twice)?;
             }
         }
     }
@@ -91,7 +117,7 @@ fn interface_faults(
     for i in 0..methods.len() {
         let one = &methods[i];
         let params = one.params.as_slice();
-        signature_declared(
+        signature(
             alloc,
             &names,
             &one.result,

@@ -81,6 +81,14 @@ impl MemberTable {
         })
     }
 
+    /// The members, alone.
+    pub fn into_members(self) -> ClassMembers
+        ensures { result ≡ self.members }
+    {
+        let MemberTable { members, .. } = self;
+        members
+    }
+
     /// The place of the first field with this name.
     pub fn field(&self, name: &Name) -> Option<usize>
         ensures { result ≡ spec.own_field name.now self.now.members }

@@ -1,8 +1,8 @@
 //! Reads classes and triggers, one line each, with ` | ` between them, each a name, a blank and its text, and checks the
 //! statements of the last body of the last one: it prints the type of each expression, and behind `=` its tree where the
 //! line begins with `tree `, or the first fault, with its word and its byte. Where the line begins with `call `, each
-//! statement is a call, and what it means is printed. Indices, `new` with fields or items, queries and other statements
-//! than declarations and expressions aren't walked. There are the objects Account, Invoice__c and Line__c.
+//! statement is a call, and what it means is printed. Other statements than declarations and expressions aren't walked,
+//! nor is a call on anything but an expression and fields. There are the objects Account, Invoice__c and Line__c.
 #![tactic(auto)]
 
 mod shown;

@@ -5,28 +5,30 @@ ghost use Rattle.type_names.specs.TypeTrees.{known};
 ghost use Rattle.type_names.specs.Walks.{Comes, Tells};
 ghost use Rattle.member_walk.specs.Declarations as spec;
 
-use crate::seen::SeenNames;
 use apex_schema::FaultWord;
 use apex_syntax::{ParamTree, ResultTree, TypeTree, Word};
 use apex_text::Name;
+use local_names::{declare, fresh};
+use local_scopes::Scope;
 use static_types::ValueType;
 use std::alloc::Global;
 use type_names::{TreeFault, TypeNames, WalkFault, type_of};
 
-// The parameters from left to right, each its type and then its name.
-fn params_declared(alloc: Global, names: &TypeNames, params: &[ParamTree]) -> Result<(), WalkFault>
+// The parameters from left to right, each its type and then its name: the locals that they are.
+fn params_declared(
+    alloc: Global,
+    names: &TypeNames,
+    params: &[ParamTree],
+) -> Result<Scope, WalkFault>
     ensures { Comes (spec.params_walk (known names.now) [] params.now) result }
 {
-    let mut seen = SeenNames::new(alloc);
+    let mut scope = Scope::new(alloc);
     for param in params {
-        type_of(alloc, names, &param.kind)?;
-        if seen.has(&param.name.name) {
-            let fault = TreeFault::new(FaultWord::Duplicate, param.name.span.from);
-            return Err(WalkFault::Wrong(fault));
-        }
-        seen = seen.with(&param.name.name)?;
+        let kind = type_of(alloc, names, &param.kind)?;
+        fresh(&scope, &param.name)?;
+        declare(&mut scope, &param.name, kind)?;
     }
-    Ok(())
+    Ok(scope)
 }
 
 fn result_declared(alloc: Global, names: &TypeNames, answer: &ResultTree) -> Result<(), WalkFault>
@@ -65,9 +67,9 @@ pub fn field_declared(
     Ok(kind)
 }
 
-/// The first fault of what stands before the body of a method, or of a method of an interface: of the type of what it
-/// answers, `Duplicate` at its name, and of its parameters from left to right, each its type and then `Duplicate` at its
-/// name.
+/// What stands before the body of a method, or a method of an interface: the locals that its parameters are. Otherwise
+/// its first fault: of the type of what it answers, `Duplicate` at its name, and of its parameters from left to right,
+/// each its type and then `Duplicate` at its name.
 pub fn signature_declared(
     alloc: Global,
     names: &TypeNames,
@@ -75,7 +77,7 @@ pub fn signature_declared(
     word: &Word,
     params: &[ParamTree],
     duplicate: bool,
-) -> Result<(), WalkFault>
+) -> Result<Scope, WalkFault>
     ensures { Comes (spec.signature_walk (known names.now) answer.now word.now params.now duplicate) result }
 {
     result_declared(alloc, names, answer)?;
@@ -94,9 +96,9 @@ fn named_so(class: &Name, word: &Word) -> Result<(), TreeFault>
     }
 }
 
-/// The first fault of what stands before the body of a constructor: `UnknownName` at its name where that isn't the
-/// class's, `Duplicate` at it, also where the class is an exception and the constructor has none or one parameter, and
-/// of its parameters.
+/// What stands before the body of a constructor: the locals that its parameters are. Otherwise its first fault:
+/// `UnknownName` at its name where that isn't the class's, `Duplicate` at it, also where the class is an exception and
+/// the constructor has none or one parameter, and of its parameters.
 pub fn constructor_declared(
     alloc: Global,
     names: &TypeNames,
@@ -105,7 +107,7 @@ pub fn constructor_declared(
     word: &Word,
     params: &[ParamTree],
     duplicate: bool,
-) -> Result<(), WalkFault>
+) -> Result<Scope, WalkFault>
     ensures { Comes (spec.constructor_walk (known names.now) class.now is_exception word.now params.now duplicate) result }
 {
     named_so(class, word)?;

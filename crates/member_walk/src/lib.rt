@@ -1,4 +1,4 @@
-//! The first fault of what members declare, without what stands in their bodies.
+//! What members declare, or their first fault, without what stands in their bodies.
 #![tactic(auto)]
 
 mod declared;

@@ -3,7 +3,7 @@ use Rattle.std.specs.Prelude.{ℕ, ◌&&◌, not, Bool, false, cond, List, lengt
 use Rattle.apex_schema.specs.declared.reply.FaultWord.TheVariants.{BadParent}
 use Rattle.class_heads.specs.declared.head.ClassHead.{ClassHead}
 use Rattle.class_heads.specs.Headers.{Nothing}
-use Rattle.class_heads.specs.Lines.{ancestors, parent_at}
+use Rattle.class_heads.specs.Lines.{ancestors, line_of, parent_at}
 use Rattle.class_members.specs.declared.key.MethodKey.{MethodKey}
 use Rattle.class_members.specs.declared.member.ClassMembers.{ClassMembers}
 use Rattle.class_members.specs.declared.member.MethodHead.{MethodHead}
@@ -28,6 +28,10 @@ own_inherited k m = kept m.methods (own_method k m)
 -- the method that a class gets from its ancestors, the nearest first
 abbrev pub overridden : List ClassMembers → List ClassHead → ℕ → MethodKey → Option Member
 overridden all heads c k = first_in (own_inherited k) all (ancestors heads 32 (parent_at heads c))
+
+-- the method that an instance of a class has
+abbrev pub nearest_inherited : List ClassMembers → List ClassHead → ℕ → MethodKey → Option Member
+nearest_inherited all heads c k = first_in (own_inherited k) all (line_of heads c)
 
 abbrev pub method_in : Option ClassMembers → ℕ → Option MethodHead
 method_in (Some m) n = slice_get m.methods n

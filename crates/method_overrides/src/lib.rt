@@ -4,4 +4,5 @@
 mod overrides;
 mod signature;
 
-pub use overrides::{overridden, override_fault};
+pub use overrides::{method_at, nearest_inherited, overridden, override_fault};
+pub use signature::same_signature;

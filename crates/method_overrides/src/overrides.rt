@@ -85,8 +85,21 @@ pub fn overridden(
     }
 }
 
-// The method that a member is.
-fn method_at(tables: &MemberTables, member: Option<Member>) -> Option<&MethodHead>
+/// The method of this name and number of parameters that an instance of a class has: that of the class itself, or of its
+/// nearest ancestor that has one; no static and no private one.
+pub fn nearest_inherited(
+    tables: &MemberTables,
+    lines: &ClassHeads,
+    class: usize,
+    key: &MethodKey,
+) -> Option<Member>
+    ensures { result ≡ spec.nearest_inherited (all_in tables.now) lines.now.heads class key.now }
+{
+    inherited(tables, lines, 32, class, key)
+}
+
+/// The method that a member is.
+pub fn method_at(tables: &MemberTables, member: Option<Member>) -> Option<&MethodHead>
     ensures { option_copied result ≡ spec.method_at (all_in tables.now) member }
 {
     match member {

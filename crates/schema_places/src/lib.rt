@@ -23,7 +23,8 @@ pub struct SchemaPlaces<'a> {
     ghost fields_are: { map names_in fields.items ≡ all_field_names schema.now.objects },
 }
 
-fn object_places(alloc: Global, objects: &[Object]) -> Result<Places, NoMemory>
+/// The names of objects, in their order.
+pub fn object_places(alloc: Global, objects: &[Object]) -> Result<Places, NoMemory>
     ensures { IfOk result (λ places. places.names.items ≡ object_names objects.now) }
 {
     let mut names = Vec::new(alloc);

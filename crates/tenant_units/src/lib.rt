@@ -6,4 +6,5 @@ mod place;
 mod trees;
 
 pub use fault::UnitFault;
+pub use place::fault_at;
 pub use trees::{block_tree, unit_trees};

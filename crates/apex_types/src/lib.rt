@@ -1,0 +1,10 @@
+//! The checker: from the trees of a tenant's units and blocks to a typed program, or the first fault.
+#![tactic(auto)]
+
+mod checker;
+mod fault;
+mod program;
+
+pub use checker::check;
+pub use fault::{CheckFault, TypeFault};
+pub use program::Program;

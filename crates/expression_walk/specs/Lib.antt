@@ -1,0 +1,4 @@
+pub mod Views
+pub mod Leaves
+pub mod Expressions
+pub mod Gatherings

@@ -1,0 +1,98 @@
+// The methods that ancestors leave to a class.
+
+ghost use Rattle.std.specs.Prelude.{◌≡◌, ◌∷◌, IfOk};
+ghost use Rattle.std.specs.List.{list_any};
+ghost use Rattle.class_heads.specs.Lines.{ancestors, parent_at};
+ghost use Rattle.class_members.specs.Tables.{all_in};
+ghost use Rattle.missing_methods.specs.Missing as spec;
+
+use crate::method::{is_left, key_of, runs};
+use apex_num::NoMemory;
+use class_heads::{ClassHeads, Parent};
+use class_members::{MemberTables, MethodHead};
+use method_overrides::{method_at, nearest_inherited};
+
+fn is_lacked(
+    tables: &MemberTables,
+    lines: &ClassHeads,
+    class: usize,
+    method: &MethodHead,
+) -> Result<bool, NoMemory>
+    ensures { IfOk result (λ b. b ≡ spec.is_lacked (all_in tables.now) lines.now.heads class method.now) }
+{
+    if !is_left(method) {
+        return Ok(false);
+    }
+    let key = key_of(method)?;
+    let nearest = nearest_inherited(tables, lines, class, &key);
+    Ok(!runs(method_at(tables, nearest)))
+}
+
+fn any_lacked(
+    tables: &MemberTables,
+    lines: &ClassHeads,
+    class: usize,
+    methods: &[MethodHead],
+) -> Result<bool, NoMemory>
+    ensures { IfOk result (λ b. b ≡ list_any (spec.is_lacked (all_in tables.now) lines.now.heads class) methods.now) }
+{
+    for method in methods {
+        if is_lacked(tables, lines, class, method)? {
+            return Ok(true);
+        }
+    }
+    Ok(false)
+}
+
+fn lacks_of(
+    tables: &MemberTables,
+    lines: &ClassHeads,
+    class: usize,
+    ancestor: usize,
+) -> Result<bool, NoMemory>
+    ensures { IfOk result (λ b. b ≡ spec.lacks_of (all_in tables.now) lines.now.heads class ancestor) }
+{
+    match tables.tables.get(ancestor) {
+        Some(table) => any_lacked(tables, lines, class, table.members.methods.as_slice()),
+        None => Ok(false),
+    }
+}
+
+#[cycle(lacks_within)]
+fn lacks_within(
+    tables: &MemberTables,
+    lines: &ClassHeads,
+    most: usize,
+    class: usize,
+    ancestor: usize,
+) -> Result<bool, NoMemory>
+    ensures { IfOk result (λ b. b ≡ list_any (spec.lacks_of (all_in tables.now) lines.now.heads class) (ancestor ∷ ancestors lines.now.heads most (parent_at lines.now.heads ancestor))) }
+{
+    if lacks_of(tables, lines, class, ancestor)? {
+        return Ok(true);
+    }
+    if most == 0 {
+        return Ok(false);
+    }
+    match lines.parent(ancestor) {
+        Parent::Class(next) => {
+            let more = lacks_within(tables, lines, most - 1, class, next)?;
+            Ok(more)
+        }
+        Parent::None | Parent::Exception => Ok(false),
+    }
+}
+
+/// Whether an ancestor leaves a method to a class that it doesn't have.
+pub fn lacks_inherited(
+    tables: &MemberTables,
+    lines: &ClassHeads,
+    class: usize,
+) -> Result<bool, NoMemory>
+    ensures { IfOk result (λ b. b ≡ spec.lacks_inherited (all_in tables.now) lines.now.heads class) }
+{
+    match lines.parent(class) {
+        Parent::Class(next) => lacks_within(tables, lines, 31, class, next),
+        Parent::None | Parent::Exception => Ok(false),
+    }
+}

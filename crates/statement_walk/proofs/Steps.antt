@@ -1,0 +1,65 @@
+-- Steps of walks over statements.
+use Rattle.std.proofs.Common.{◌≡◌, ℕ, ◌+◌, ◌<◌, List, [], ◌∷◌, ◌++◌, length, drop, get_or, map, Option, None, Some, option_map, refl, sym, ap, ◌∙◌, subst}
+use Rattle.std.proofs.lemmas.List.{drop_more}
+use Rattle.apex_syntax.specs.declared.stmt.Body.{Body}
+use Rattle.apex_syntax.specs.declared.stmt.Catch.{Catch}
+use Rattle.apex_syntax.specs.declared.stmt.Declarator.{Declarator}
+use Rattle.apex_syntax.specs.declared.stmt.Stmt.{Stmt}
+use Rattle.apex_syntax.specs.declared.stmt.Stmt.TheFolds.{fold-roll-Stmt}
+use Rattle.apex_syntax.specs.declared.stmt.Stmt.TheOpen.{Stmt-F}
+use Rattle.apex_syntax.specs.declared.stmt.Stmt.TheVariants.{Try, rolls-Try}
+use Rattle.apex_text.specs.declared.place.Span.{Span}
+use Rattle.statement_walk.specs.Scenes.{Locals, Scene, nested}
+use Rattle.statement_walk.specs.Simples.{declared, declared_from}
+use Rattle.statement_walk.specs.Statements.{StmtWalk, BodyWalk, CatchWalk, stmt_step, body_step, catch_step, statement, body, catching, catches_from, body_where, scoped, try_by}
+use Rattle.statement_walk.specs.declared.view.Inside.{Inside}
+use Rattle.static_types.specs.declared.kind.ValueType.{ValueType}
+use Rattle.type_names.specs.declared.fault.WalkFault.{WalkFault}
+use Rattle.type_names.specs.declared.fault.WalkFault.TheVariants as Fault
+use Rattle.type_names.specs.Walks.{Walk, Gives, Fails, onward}
+use Rattle.typed_statements.specs.declared.stmt.TypedCatch.{TypedCatch}
+use Rattle.typed_statements.specs.declared.stmt.TypedLocal.{TypedLocal}
+use Rattle.typed_statements.specs.declared.stmt.TypedStmt.{TypedStmt}
+use Rattle.typed_statements.specs.declared.stmt.TypedStmt.TheVariants as T
+
+module _ {A B : Type 0} where
+  goes_to : (w : Walk A) (go : A → Walk B) (a : A) (b : B) → w ≡ Gives a → go a ≡ Gives b → onward w go ≡ Gives b
+  goes_to w go a b e h = ap (λ v. onward v go) e ∙ h
+
+  halts : (w : Walk A) (go : A → Walk B) (fault : WalkFault) → Fails w fault → Fails (onward w go) fault
+  halts w go (Fault.Wrong fault) h = ap (λ v. onward v go) h
+  halts w go Fault.NoMemory h = h
+
+-- a local that has a fault, behind those that have none
+module _ (s : Scene) (kind : ValueType) (ds : List Declarator) (i : ℕ) (d : Declarator) (lt : i < length ds) (is : d ≡ get_or ds i d) where
+  left : drop i ds ≡ d ∷ drop (i + 1) ds
+  left = drop_more ds i d lt ∙ ap (λ x. x ∷ drop (i + 1) ds) (sym is)
+
+  pub local_halts : (done : List TypedLocal) (locals : Locals) (fault : WalkFault) (whole : Walk (List TypedLocal × Locals))
+      → Fails (declared s kind d locals) fault → declared_from s kind (drop i ds) done locals ≡ whole → Fails whole fault
+  local_halts done locals fault whole h inv =
+      subst (λ w. Fails w fault) (sym (ap (λ l. declared_from s kind l done locals) left) ∙ inv)
+      (halts (declared s kind d locals) (λ r. declared_from s kind (drop (i + 1) ds) (done ++ r.0 ∷ []) r.1) fault h)
+
+module _ (s : Scene) where
+  try_is : (t : Stmt) (sp : Span) (b : Body) (cs : List Catch) (f : Option Body) (inside : Inside) (locals : Locals) → t ≡ Try sp b cs f
+      → (statement s t).walk inside locals ≡ try_by s (body s b) (map (catching s) cs) (option_map (body s) f) inside locals
+  try_is t sp b cs None inside locals e =
+      ap (λ x. (statement s x).walk inside locals) (e ∙ sym (rolls-Try sp b cs None))
+      ∙ ap (λ (w : StmtWalk). w.walk inside locals) (fold-roll-Stmt StmtWalk BodyWalk CatchWalk (stmt_step s) (body_step s) (catch_step s) (Stmt-F.Try sp b cs None))
+  try_is t sp b cs (Some f) inside locals e =
+      ap (λ x. (statement s x).walk inside locals) (e ∙ sym (rolls-Try sp b cs (Some f)))
+      ∙ ap (λ (w : StmtWalk). w.walk inside locals) (fold-roll-Stmt StmtWalk BodyWalk CatchWalk (stmt_step s) (body_step s) (catch_step s) (Stmt-F.Try sp b cs (Some f)))
+
+  pub try_gives : (t : Stmt) (sp : Span) (b : Body) (cs xs : List Catch) (f : Option Body) (inside within : Inside) (locals after behind end : Locals)
+      (made : List TypedStmt) (caught : List TypedCatch) (last : Option (List TypedStmt))
+      → t ≡ Try sp b cs f → xs ≡ cs → within ≡ nested inside
+      → scoped (body s b within) locals ≡ Gives (made, after)
+      → catches_from (map (catching s) xs) inside [] after ≡ Gives (caught, behind)
+      → body_where (option_map (body s) f) inside behind ≡ Gives (last, end)
+      → (statement s t).walk inside locals ≡ Gives (T.Try made caught last, end)
+  try_gives t sp b cs xs f inside within locals after behind end made caught last e x w one two three =
+      try_is t sp b cs f inside locals e
+      ∙ goes_to _ _ (made, after) _ (ap (λ i. scoped (body s b i) locals) (sym w) ∙ one)
+      (goes_to _ _ (caught, behind) _ (ap (λ l. catches_from (map (catching s) l) inside [] after) (sym x) ∙ two)
+      (goes_to _ _ (last, end) _ three refl))

@@ -1,0 +1,3 @@
+pub mod OpenClasses
+pub mod Members
+pub mod Units
