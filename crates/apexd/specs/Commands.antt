@@ -1,24 +1,24 @@
--- The words of the command line (docs/formats.md, "Commands").
-use Rattle.std.specs.Prelude.{◌≡◌, ℕ, ◌⊎◌, Bool, true, false, List, [], ◌∷◌, ◌++◌, codes, bytes_eq}
+-- What a status says, by the words of the command line.
+use Rattle.std.specs.Prelude.{◌≡◌, ℕ, ◌⊎◌, List, [], ◌∷◌, ◌++◌, codes, Option}
 use Rattle.apex_io.specs.Outside.{Adds}
 use Rattle.apex_io.specs.Whole.{WriteCause}
-use Rattle.apexd.specs.Answers.{Seen, Execs}
-
--- the words are `exec`
-abbrev pub is_exec : List (List ℕ) → Bool
-is_exec [] = false
-is_exec (w ∷ []) = bytes_eq w (codes "exec")
-is_exec (w ∷ v ∷ ws) = false
+use Rattle.apex_schema.specs.declared.reply.Event.{Event}
+use Rattle.stack_code.specs.declared.code.Image.{Image}
+use Rattle.command_answers.specs.declared.words.Row.{Row}
+use Rattle.command_answers.specs.Answers.{Outside}
+use Rattle.block_exec.specs.Exec.{Execs}
+use Rattle.bundle_turns.specs.Turns.{Turns}
 
 abbrev pub usage_line : List ℕ
 usage_line = codes "usage: apexd run --workers W --shards N | apexd turns LIST | apexd exec" ++ 10 ∷ []
 
 -- the words are no command: the line says so, or it couldn't be written
-abbrev pub IsUsage : ℕ → Seen → Type 0
+abbrev pub IsUsage : ℕ → Outside → Type 0
 IsUsage status s =
     ((status ≡ 1) × Adds s.held usage_line s.held_later) ⊎ ((status ≡ 4) × WriteCause usage_line s.held s.held_later s.write_faults s.write_faults_later)
 
--- what a status says, by the words
-abbrev pub Answers : Bool → ℕ → Seen → Type 0
-Answers true status s = Execs status s
-Answers false status s = IsUsage status s × (s.later ≡ s.left)
+-- what a status says, with the image and the trails that are kept
+abbrev pub Answers : Row → Option Image → List (List Event) → ℕ → Outside → Type 0
+Answers Row.Exec image trails status s = Execs image status s
+Answers (Row.Turns listed) image trails status s = Turns listed trails status s
+Answers Row.Usage image trails status s = IsUsage status s × (s.later ≡ s.left)

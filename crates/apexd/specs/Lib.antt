@@ -1,4 +1,1 @@
-pub mod Printing
-pub mod Refusals
-pub mod Answers
 pub mod Commands

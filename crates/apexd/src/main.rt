@@ -1,14 +1,14 @@
-//! `apexd`: a compiler and runtime for Apex. So far it runs one small block.
+//! `apexd`: a compiler and runtime for Apex. So far it runs one small block, and tells of a bundle what isn't deployed and
+//! which requests are refused.
 #![tactic(auto)]
 
 mod command;
-mod exec;
-mod print;
-mod refuse;
 #[cfg(test)]
 mod tests;
 
 use apex_io::{StdSink, StdSource};
+use apex_list::Items;
+use bundle_turns::Book;
 use command::{Kept, top};
 use std::env;
 use std::io::ErrorKind;
@@ -36,6 +36,11 @@ fn main(rt: HostRuntime) -> ExitCode {
     }
     let mut source = StdSource::new(rt.stdin());
     let mut sink = StdSink::new(rt.stdout());
-    let mut kept = Kept { image: None };
+    let mut kept = Kept {
+        image: None,
+        book: Book {
+            trails: Items::new(rt.alloc()),
+        },
+    };
     ExitCode::from(top(rt.alloc(), &words, &mut source, &mut sink, &mut kept))
 }

@@ -1,0 +1,10 @@
+use Rattle.std.proofs.Common.{eqb, length}
+use Rattle.bundle_turns.proofs.Tenants.{one_more}
+use Rattle.bundle_turns.proofs.turns.all_came.Goals as goal
+
+pub tenants-preserved : goal.tenants-preserved
+tenants-preserved c =
+    let came = c.in_ok-fault.field-0 in
+    let fault = c.in_ok-push.ensures in
+    let trail = c.in_ok-push-2.ensures in
+    one_more (eqb (length c.args.tenants.now) 1) c.args.tenants.now c.tenants.t c.index-tenants-t.result c.tenants.faults _ c.tenants.trails _ came.fault came.trail c.tenants-test.true c.index-tenants-t.is c.tenants.invariant c.in_ok-fault.ensures fault.ok trail.ok

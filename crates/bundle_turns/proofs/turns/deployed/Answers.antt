@@ -1,0 +1,11 @@
+use Rattle.std.proofs.Common.{ap, ◌∙◌}
+use Rattle.refused_requests.specs.Refusals.{trail_of}
+use Rattle.bundle_turns.specs.Turns.{requests_of}
+use Rattle.bundle_turns.proofs.Sessions.{few}
+use Rattle.bundle_turns.proofs.Tenants.{ran}
+use Rattle.bundle_turns.proofs.turns.deployed.Goals as goal
+
+pub returns : goal.returns
+returns c =
+    let part = c.args.part.now in
+    (part, c.requires.part, ran c.laws_of_refusals.ensures.one c.laws_of_refusals.ensures.none part c.in_ok-trail.trail (few c.args.plan.now part c.requires.part c.requires.built) (c.in_ok-trail.ensures ∙ ap (λ s. trail_of (requests_of s)) c.as_slice.ensures))
