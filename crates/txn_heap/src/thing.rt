@@ -1,0 +1,33 @@
+// Values and things.
+
+use apex_list::Items;
+use apex_num::Cell;
+
+/// A thing, by the number of things that were made before it in the transaction.
+#[derive(Clone, Copy, Debug, PartialEq, Eq, Hash, Drop)]
+pub struct Ref {
+    pub place: usize,
+}
+
+/// What an expression gives and a variable has.
+#[derive(Debug, Drop)]
+pub enum Value {
+    /// A primitive value or null.
+    Plain(Cell),
+    /// A thing of the heap.
+    Object(Ref),
+}
+
+/// A record in memory: its object, and for each field the cell that it knows.
+#[derive(Debug, Drop)]
+pub struct Record {
+    pub object: usize,
+    pub cells: Items<Option<Cell>>,
+}
+
+/// A thing that a transaction made.
+#[derive(Debug, Drop)]
+pub enum Thing {
+    Record(Record),
+    List(Items<Value>),
+}

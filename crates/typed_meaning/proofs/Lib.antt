@@ -1,0 +1,3 @@
+pub mod Equations
+mod Failing
+mod Samples
