@@ -14,7 +14,10 @@ use Rattle.apex_schema.specs.declared.request.SaveRow.{SaveRow}
 use Rattle.apex_schema.specs.declared.row.Row.{Row}
 use Rattle.apex_schema.specs.Overlays.{Overlay}
 use Rattle.save_meaning.specs.Transactions.{Halts, Needs, Throws, Res, Gives, Stops, bind, Keeps, IsKept, charge_if, charge, answered, ask}
-use Rattle.save_meaning.specs.Drafts.{Draft, Going, Wrong, judged, going, first_wrong, Reference, references, bad_reference}
+use Rattle.save_meaning.specs.declared.draft.Draft.{Draft}
+use Rattle.save_meaning.specs.declared.draft.Draft.TheVariants.{Going, Wrong}
+use Rattle.save_meaning.specs.declared.draft.Reference.{Reference}
+use Rattle.save_meaning.specs.Drafts.{judged, going, first_wrong, references, bad_reference}
 use Rattle.save_meaning.specs.Inserts
 
 module _ {S : Type 0} (keeps : Keeps S) (kept : IsKept keeps) where

@@ -25,11 +25,9 @@ use Rattle.apex_schema.specs.Plans.{or_later}
 use Rattle.apex_schema.specs.Rules.{is_blank, text_length, rule_value}
 use Rattle.apex_schema.specs.Stores.{has_id}
 use Rattle.apex_schema.specs.Users.{user_id}
-
--- a record that goes on with the row that it would be, or its first error
-pub data Draft : Type 0 where
-  Going : Row → Draft
-  Wrong : RecordError → Draft
+use Rattle.save_meaning.specs.declared.draft.Draft.{Draft}
+use Rattle.save_meaning.specs.declared.draft.Draft.TheVariants.{Going, Wrong}
+use Rattle.save_meaning.specs.declared.draft.Reference.{Reference}
 
 abbrev pub judged_by : Row → Option RecordError → Draft
 judged_by row None = Going row
@@ -84,12 +82,7 @@ new_draft user object fields None known = Going (record { object = object; id = 
 
 -- ---- references
 
--- the fields that lead to another object: their numbers, their objects and their names
-pub record Reference : Type 0 where
-  pub field : ℕ
-  pub to : ℕ
-  pub name : List ℕ
-
+-- the fields that lead to another object
 abbrev pub reference_of : ℕ → Field → FieldKind → List Reference
 reference_of n f (Kind.Lookup link) = record { field = n; to = link.to; name = f.name } ∷ []
 reference_of n f (Kind.MasterDetail link) = record { field = n; to = link.to; name = f.name } ∷ []

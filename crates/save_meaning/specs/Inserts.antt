@@ -17,7 +17,10 @@ use Rattle.apex_schema.specs.Stores.{has_id}
 use Rattle.record_ids.specs.Ids.{minted_id}
 use Rattle.txn_overlay.specs.Changes.{changed}
 use Rattle.save_meaning.specs.Transactions.{Throws, Res, Gives, Stops, bind, Keeps, charge, ask, set_overlay}
-use Rattle.save_meaning.specs.Drafts.{Draft, Going, Wrong, judged, going, first_wrong, new_draft, Reference, references, wanted, by_ids, bad_reference, invalid, written}
+use Rattle.save_meaning.specs.declared.draft.Draft.{Draft}
+use Rattle.save_meaning.specs.declared.draft.Draft.TheVariants.{Going, Wrong}
+use Rattle.save_meaning.specs.declared.draft.Reference.{Reference}
+use Rattle.save_meaning.specs.Drafts.{judged, going, first_wrong, new_draft, references, wanted, by_ids, bad_reference, invalid, written}
 
 abbrev pub rows_of_answer : Answer → List Row
 rows_of_answer (Rows rows) = rows
@@ -43,6 +46,15 @@ abbrev pub ids_of : List Row → List (List ℕ)
 ids_of [] = []
 ids_of (row ∷ rows) = row.id ∷ ids_of rows
 
+-- the rows that the records of a user would be
+abbrev pub loaded : ℕ → ℕ → Object → List SaveRow → List Draft
+loaded user object o [] = []
+loaded user object o (r ∷ rs) = new_draft user object o.fields r.id r.cells ∷ loaded user object o rs
+
+-- RowShare stands behind the declared objects
+abbrev pub is_row_share : Schema → ℕ → Bool
+is_row_share schema object = eqb (object + 1) (length schema.objects)
+
 -- the most records of a chunk
 abbrev pub chunk_most : ℕ
 chunk_most = 200
@@ -63,12 +75,8 @@ module _ {S : Type 0} (keeps : Keeps S) (schema : Schema) (session request user 
 
   -- ---- loading: the rows that the records would be
 
-  abbrev pub loaded : ℕ → Object → List SaveRow → List Draft
-  loaded object o [] = []
-  loaded object o (r ∷ rs) = new_draft user object o.fields r.id r.cells ∷ loaded object o rs
-
   abbrev pub load : ℕ → Object → List SaveRow → S → Res S (List Draft)
-  load object o rows s = bind (charge keeps Steps (length rows) s) (λ u s1. Gives (loaded object o rows) s1)
+  load object o rows s = bind (charge keeps Steps (length rows) s) (λ u s1. Gives (loaded user object o rows) s1)
 
   -- ---- references: one question for each field that leads to another object, where there are Ids to look for
 
@@ -88,12 +96,8 @@ module _ {S : Type 0} (keeps : Keeps S) (schema : Schema) (session request user 
 
   -- ---- validation
 
-  -- RowShare stands behind the declared objects
-  abbrev pub is_row_share : ℕ → Bool
-  is_row_share object = eqb (object + 1) (length schema.objects)
-
   abbrev pub validate : ℕ → Object → List Draft → S → Res S (List Draft)
-  validate object o ds s = Gives (judged (invalid (is_row_share object) o) ds) s
+  validate object o ds s = Gives (judged (invalid (is_row_share schema object) o) ds) s
 
   -- ---- writing: each row gets the next Id
 

@@ -36,9 +36,11 @@ pub record Keeps (S : Type 0) : Type 0 where
   pub txn : S → Txn
   pub with_txn : Txn → S → S
 
--- it keeps what is put there
+-- it keeps what is put there, what is put later stands in its place, and what is there may be put there
 pub record IsKept {S : Type 0} (keeps : Keeps S) : Type 0 where
   pub same : (t : Txn) (s : S) → keeps.txn (keeps.with_txn t s) ≡ t
+  pub twice : (t u : Txn) (s : S) → keeps.with_txn t (keeps.with_txn u s) ≡ keeps.with_txn t s
+  pub itself : (s : S) → keeps.with_txn (keeps.txn s) s ≡ s
 
 module _ {S : Type 0} (keeps : Keeps S) where
   abbrev pub charge_if : Bool → LimitKind → ℕ → S → Res S (Unit {0})

@@ -1,3 +1,4 @@
 pub mod Merges
 pub mod Steps
 pub mod Writing
+pub mod Copies

@@ -2,7 +2,9 @@
 //! "Overlays").
 #![tactic(auto)]
 
+mod journal;
 mod merge;
 mod overlay;
 
+pub use journal::Journal;
 pub use overlay::{Change, Overlay};

@@ -52,6 +52,20 @@ impl Overlay {
         }
     }
 
+    /// An overlay with the same changes.
+    pub fn copy(&self) -> Result<Overlay, NoMemory>
+        ensures { IfOk result (λ o. o ≡ self.now) }
+    {
+        let mut copied = Overlay::new(self.alloc);
+        for (id, change) in &self.changes {
+            match change {
+                Change::Now(row) => copied.put(row.copy()?)?,
+                Change::Gone => copied.remove(*id)?,
+            }
+        }
+        Ok(copied)
+    }
+
     /// Writes a row, in place of an earlier change of its Id. Want of memory leaves the overlay.
     pub fn put(&mut self, row: Row) -> Result<(), NoMemory>
         ensures ok { OnOk result (self.new ≡ changed row.id (NowIs row) self.old) }

@@ -87,6 +87,16 @@ abbrev pub width : Option TheObject → ℕ
 width None = 0
 width (Some o) = length o.fields
 
+-- ---- queries
+
+abbrev pub is_none : {A : Type 0} → Option A → Bool
+is_none None = true
+is_none (Some a) = false
+
+-- COUNT() with a condition or none, and nothing else
+abbrev pub is_count : Query-F Query SubQuery → Bool
+is_count q = q.counted && not q.locked && is_none q.limit && is_none q.offset
+
 module _ (schema : Schema) where
   -- a debug line: its text is charged before it is made, at 16 units and one for each byte
   abbrev pub say : Value → State → Res Value
@@ -108,17 +118,12 @@ module _ (schema : Schema) where
   new_step (TypedNew-F.Collection Kind.List es) st = bind (all_of es st) make_list
   new_step _ st = unbuilt st
 
-  -- COUNT() with a condition or none, and nothing else
-  abbrev pub is_none : {A : Type 0} → Option A → Bool
-  is_none None = true
-  is_none (Some a) = false
-
   abbrev pub count_if : Bool → ℕ → Cond → State → Res Value
   count_if true object c st = bind (lifted (count keeps object c st)) (λ n s. Gives (Plain (C.Whole (pos n))) s)
   count_if false object c st = unbuilt st
 
   abbrev pub counted : Query-F Query SubQuery → State → Res Value
-  counted q st = count_if (q.counted && not q.locked && is_none q.limit && is_none q.offset) q.object q.cond st
+  counted q st = count_if (is_count q) q.object q.cond st
 
   abbrev pub query_with : {A : Type 0} → Query → List A → State → Res Value
   query_with q [] st = counted (out-Query q) st

@@ -1,0 +1,96 @@
+// Instructions, and the states of the machine.
+
+use apex_list::{Boxed, Items, Stack};
+use apex_num::{Cell, Text};
+use apex_schema::{Answer, Cond};
+use platform_errors::Thrown;
+use save_moves::{SaveRun, TxnState};
+use txn_heap::{Thing, Value};
+use typed_statements::Saved;
+use typed_trees::Arithmetic;
+
+/// What a COUNT() counts: the rows of an object that meet a condition, and what the store is asked for.
+#[derive(Debug, Drop)]
+pub struct Counting {
+    pub object: usize,
+    pub cond: Cond,
+    /// The part of the condition that a store can decide.
+    pub asked: Cond,
+}
+
+/// An instruction. Operands are taken from the top of the operand stack, the last one first.
+#[derive(Debug, Drop)]
+pub enum Instr {
+    /// Charges one step.
+    Step,
+    /// Puts a constant.
+    Push(Cell),
+    /// Puts the local in a slot; null where the slot has none yet.
+    Load(usize),
+    /// Takes a value into a slot.
+    Store(usize),
+    /// Takes an Integer and puts its negative.
+    Negate,
+    /// Takes two Integers and puts what the operator gives.
+    Calc(Arithmetic),
+    /// Takes a value for each of these fields and puts a new record of the object.
+    Record(usize, Items<usize>),
+    /// Takes so many values and puts a new list of them.
+    List(usize),
+    /// Takes a value, prints its text, which is charged first, and puts null.
+    Print,
+    /// Puts how many rows there are.
+    Count(Boxed<Counting>),
+    /// Takes a record or a list of records and inserts them.
+    Insert(Saved),
+    /// Takes a value.
+    Pop,
+    /// Stands for a form that isn't built yet.
+    Unbuilt,
+}
+
+/// The code of a block.
+#[derive(Debug, Drop)]
+pub struct Image {
+    pub body: Items<Instr>,
+}
+
+/// An activation of code: the place of the next instruction, the locals and the operand stack.
+#[derive(Drop)]
+pub struct Frame {
+    pub pc: usize,
+    pub locals: Items<Value>,
+    pub stack: Stack<Value>,
+}
+
+/// What the machine does.
+#[derive(Drop)]
+pub enum Mode {
+    /// It runs the next instruction.
+    Running,
+    /// An exception is on its way out.
+    Raising(Thrown),
+    /// A COUNT() asks.
+    Asking,
+    /// A COUNT() has its answer.
+    Counting(Answer),
+    /// The records at these places of the heap are saved.
+    Saving(Items<usize>, SaveRun),
+}
+
+/// What the whole request has in common: what it changed and used up, the things that it made, and its debug lines, both
+/// oldest first.
+#[derive(Drop)]
+pub struct World {
+    pub txn: TxnState,
+    pub heap: Items<Thing>,
+    pub debug: Items<Text>,
+}
+
+/// A state of the machine.
+#[derive(Drop)]
+pub struct Config {
+    pub top: Frame,
+    pub mode: Mode,
+    pub world: World,
+}

@@ -1,0 +1,3 @@
+pub mod Simulates
+pub mod Trees
+pub mod Correct
