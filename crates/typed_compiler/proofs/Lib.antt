@@ -1,3 +1,4 @@
 pub mod Simulates
 pub mod Trees
 pub mod Correct
+pub mod Emits

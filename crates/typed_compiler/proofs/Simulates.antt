@@ -38,11 +38,12 @@ use Rattle.save_moves.specs.Moves
 use Rattle.save_moves.proofs.Drives.{Holds as SaveHolds, Drives, Finished, Ended, insert_at as inserts}
 use Rattle.typed_meaning.specs.States.{World, State, Throws, Halts, Needs, Unbuilt, Stop, Leaves, Closes, Res, Gives, Stops, bind, lifted, unbuilt, charge, keeps, make}
 use Rattle.typed_meaning.specs.States as S
-use Rattle.typed_meaning.specs.Values.{null, Calc, Val, Fails, Other, integers, negative, text_of}
+use Rattle.typed_meaning.specs.Values.{null, cell_of, Calc, Val, Fails, Other, integers, negative, text_of}
 use Rattle.typed_meaning.specs.Expressions as E
 use Rattle.typed_meaning.specs.Statements as D
 use Rattle.typed_statements.specs.declared.stmt.Saved.{Saved}
 use Rattle.typed_meaning.specs.Runs.{counts_of, ended, run_of}
+use Rattle.typed_trees.specs.declared.expr.Constant.{Constant}
 use Rattle.typed_trees.specs.declared.expr.Conversion.{Conversion}
 use Rattle.typed_trees.specs.declared.expr.Conversion.TheVariants as Conv
 use Rattle.typed_trees.specs.declared.expr.Number.TheVariants as Number
@@ -207,6 +208,10 @@ module _ (schema : Schema) (session request user : ℕ) (image : Image) (r : Tra
 
   pub push_at : (c : Cell) → Puts (λ st. Gives (Plain c) st) (I.Push c ∷ [])
   push_at c k temps st post = first (I.Push c) k temps st (λ pc w a d e. post.by (pc + 1) w a d)
+
+  pub constant_at : (b : Bool) (x : Constant) → Puts (E.constant b x) (Code.constant_code b x)
+  constant_at true x k temps st post = push_at (cell_of x) k temps st post
+  constant_at false x k temps st post = unbuilt_at k temps st post
 
   pub load_at : (x : ℕ) → Puts (λ st. Gives (slice_index_or st.locals x null) st) (I.Load x ∷ [])
   load_at x k temps st post = first (I.Load x) k temps st (λ pc w a d e. post.by (pc + 1) w a d)

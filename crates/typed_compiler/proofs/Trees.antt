@@ -31,7 +31,7 @@ use Rattle.typed_trees.specs.declared.expr.TypedBind.TheOpen.{TypedExpr-F, Typed
 use Rattle.typed_trees.specs.declared.expr.TypedBind.TheViews.{roll-TypedExpr, roll-TypedNew, roll-TypedOperand, roll-TypedPair}
 use Rattle.typed_trees.specs.declared.expr.TypedBind.TheFolds.{fold-TypedBind, fold-TypedPart, fold-TypedItem, fold-roll-TypedExpr, fold-roll-TypedNew, fold-roll-TypedOperand, fold-roll-TypedPair, ind-TypedExpr, map-TypedExpr, map-TypedNew, map-TypedOperand, map-TypedPair}
 use Rattle.typed_meaning.specs.States.{State, Res, Gives, bind, lifted, unbuilt, charge, keeps, set_local}
-use Rattle.typed_meaning.specs.Values.{null, cell_of, negative}
+use Rattle.typed_meaning.specs.Values.{null, is_cell, negative}
 use Rattle.typed_meaning.specs.Expressions as E
 use Rattle.typed_meaning.specs.Expressions.{Run, Behind}
 use Rattle.typed_meaning.specs.Statements as D
@@ -137,7 +137,7 @@ module _ (schema : Schema) (session request user : ℕ) (image : Image) (r : Tra
   lacks_new z q e = puts_new z (λ st. unbuilt st) Code.unbuilt q e (Simulates.puts_unbuilt schema session request user image r)
 
   expr_layer : (y : TypedExpr-F SuchBind SuchExpr SuchNew SuchPart SuchItem SuchOperand SuchPair) → Puts (E.value_of schema (roll-TypedExpr (map-TypedExpr SuchBind SuchExpr SuchNew SuchPart SuchItem SuchOperand SuchPair TypedBind TypedExpr TypedNew TypedPart TypedItem TypedOperand TypedPair (λ e. e.0) (λ e. e.0) (λ e. e.0) (λ e. e.0) (λ e. e.0) (λ e. e.0) (λ e. e.0) y))) (Code.expr_code (roll-TypedExpr (map-TypedExpr SuchBind SuchExpr SuchNew SuchPart SuchItem SuchOperand SuchPair TypedBind TypedExpr TypedNew TypedPart TypedItem TypedOperand TypedPair (λ e. e.0) (λ e. e.0) (λ e. e.0) (λ e. e.0) (λ e. e.0) (λ e. e.0) (λ e. e.0) y)))
-  expr_layer (TypedExpr-F.Constant k) = puts_expr (TypedExpr-F.Constant k) _ _ (λ st. refl) refl (Simulates.push_at schema session request user image r (cell_of k))
+  expr_layer (TypedExpr-F.Constant k) = puts_expr (TypedExpr-F.Constant k) _ _ (λ st. refl) refl (Simulates.constant_at schema session request user image r (is_cell k) k)
   expr_layer (TypedExpr-F.Local x) = puts_expr (TypedExpr-F.Local x) _ _ (λ st. refl) refl (Simulates.load_at schema session request user image r x)
   expr_layer (TypedExpr-F.Chain p os) =
       puts_expr (TypedExpr-F.Chain p.0 (map (λ o. o.0) os)) _ _ (λ st. refl) refl

@@ -22,16 +22,15 @@ use Rattle.typed_trees.specs.declared.expr.TypedBind.TheOpen.{TypedExpr-F, Typed
 use Rattle.typed_trees.specs.declared.expr.TypedBind.TheViews.{roll-TypedExpr, roll-TypedNew, roll-TypedOperand, roll-TypedPair}
 use Rattle.typed_trees.specs.declared.expr.TypedBind.TheFolds.{fold-roll-TypedExpr, fold-roll-TypedNew, fold-roll-TypedOperand, fold-roll-TypedPair}
 use Rattle.txn_heap.specs.declared.thing.Value.{Value}
-use Rattle.txn_heap.specs.declared.thing.Value.TheVariants.{Plain}
 use Rattle.apex_num.specs.declared.kind.LimitKind.TheVariants.{Steps}
 use Rattle.std.specs.Prelude.{slice_index_or}
 use Rattle.typed_meaning.specs.States.{State, Gives, bind, charge}
-use Rattle.typed_meaning.specs.Values.{null, cell_of, negative}
-use Rattle.typed_meaning.specs.Expressions.{Run, Behind, calc, apply, chained, converted, all_of, all_pairs, say, make_record, make_list, query_with, bind_step, expr_step, new_step, part_step, item_step, operand_step, pair_step, value_of, new_of, operand_of, pair_of}
+use Rattle.typed_meaning.specs.Values.{null, is_cell, negative}
+use Rattle.typed_meaning.specs.Expressions.{Run, Behind, constant, calc, apply, chained, converted, all_of, all_pairs, say, make_record, make_list, query_with, bind_step, expr_step, new_step, part_step, item_step, operand_step, pair_step, value_of, new_of, operand_of, pair_of}
 use Rattle.typed_meaning.specs.Statements.{Do, all_do, records_of, insert_these, declare_all, stmt_step, catch_step, does}
 
 module _ (schema : Schema) where
-  pub value-Constant : (k : Constant) (st : State) → value_of schema (roll-TypedExpr (TypedExpr-F.Constant k)) st ≡ Gives (Plain (cell_of k)) st
+  pub value-Constant : (k : Constant) (st : State) → value_of schema (roll-TypedExpr (TypedExpr-F.Constant k)) st ≡ constant (is_cell k) k st
   value-Constant k st = ap (λ f. f st) (fold-roll-TypedExpr Run Run Run Behind Run Behind (ℕ × Run) (bind_step schema) (expr_step schema) (new_step schema) (part_step schema) (item_step schema) operand_step (pair_step schema) (TypedExpr-F.Constant k))
 
   pub value-Local : (x : ℕ) (st : State) → value_of schema (roll-TypedExpr (TypedExpr-F.Local x)) st ≡ Gives (slice_index_or st.locals x null) st

@@ -1,5 +1,7 @@
 -- Blocks by hand.
 use Rattle.std.proofs.Common.{◌≡◌, refl, ℕ, true, false, List, [], ◌∷◌, codes, pos, None, Some}
+use Rattle.std.specs.Str.{is_utf8}
+use Rattle.std.proofs.lemmas.Str.{is_utf8-from_IsUtf8}
 use Rattle.apex_num.specs.declared.cell.Cell.TheVariants as C
 use Rattle.apex_schema.specs.declared.query.Answer.TheVariants.{Rows as RowsOf}
 use Rattle.apex_schema.specs.declared.query.Cond.{Cond}
@@ -163,6 +165,14 @@ twice_inserted = simp (does-Declare, does-Insert, value-Constant, value-Local, v
 again : told (run schema 0 0 0 (declares 0 (wide 5) ∷ inserts (One 1) (local 0) ∷ inserts (One 1) (local 0) ∷ []) []) ≡ Came (Thrown (codes "DmlException") (message (Throw.Dml Op.Insert (pos 0) Error.IdInInsert))) (record zero_counts { dml = 2; saved = 2; steps = 11 }) []
 again = simp (does-Declare, does-Insert, value-Constant, value-Local, value-New, new-Record, pair-is) refl
 
+utf8_a : is_utf8 (codes "a") ≡ true
+unfolding lib.Utf8.encode
+utf8_a = is_utf8-from_IsUtf8 (codes "a") (codes "a", (refl, refl))
+
+utf8_b : is_utf8 (codes "b") ≡ true
+unfolding lib.Utf8.encode
+utf8_b = is_utf8-from_IsUtf8 (codes "b") (codes "b", (refl, refl))
+
 -- System.debug('a'); Integer x = 1 / (2 - 1 - 1); what follows isn't run
 stops : told (run schema 0 0 0 (says (constant (K.Text (codes "a"))) ∷ declares 0 (one_over (less_one (less_one (constant (K.Whole (pos 2)))))) ∷ says (constant (K.Text (codes "b"))) ∷ []) []) ≡ Came (Thrown (codes "MathException") (codes "Divide by 0")) (record zero_counts { steps = 2 }) (codes "a" ∷ [])
-stops = simp (does-Expr, does-Declare, value-Constant, value-Chain, value-Debug, operand-is) refl
+stops = simp (does-Expr, does-Declare, utf8_a, utf8_b, value-Constant, value-Chain, value-Debug, operand-is) refl

@@ -15,6 +15,7 @@ use Rattle.txn_heap.specs.declared.thing.Thing.TheVariants as T
 use Rattle.txn_heap.specs.declared.thing.Value.{Value}
 use Rattle.txn_heap.specs.declared.thing.Value.TheVariants.{Plain, Object}
 use Rattle.typed_trees.specs.declared.expr.CollectionKind.TheVariants as Kind
+use Rattle.typed_trees.specs.declared.expr.Constant.{Constant}
 use Rattle.typed_trees.specs.declared.expr.Conversion.{Conversion}
 use Rattle.typed_trees.specs.declared.expr.Conversion.TheVariants.{Same}
 use Rattle.typed_trees.specs.declared.expr.Number.TheVariants.{Integer}
@@ -27,7 +28,7 @@ use Rattle.typed_trees.specs.declared.expr.TypedPair.{TypedPair}
 use Rattle.typed_trees.specs.declared.expr.TypedBind.TheOpen.{TypedBind-F, TypedExpr-F, TypedNew-F, TypedPart-F, TypedItem-F, TypedOperand-F, TypedPair-F}
 use Rattle.typed_trees.specs.declared.expr.TypedBind.TheFolds.{fold-TypedExpr, fold-TypedNew, fold-TypedOperand, fold-TypedPair}
 use Rattle.typed_meaning.specs.States.{State, Res, Gives, bind, lifted, throws, unbuilt, charge, keeps, with_line, make}
-use Rattle.typed_meaning.specs.Values.{null, cell_of, Calc, Val, Fails, Other, integers, negative, text_of}
+use Rattle.typed_meaning.specs.Values.{null, cell_of, is_cell, Calc, Val, Fails, Other, integers, negative, text_of}
 
 -- what code does from a state on, and what goes on with a value does
 abbrev pub Run : Type 0
@@ -40,6 +41,10 @@ Behind = Value → State → Res Value
 -- paths, items of maps, operands and fields
 abbrev pub ExprOf : Type 0
 ExprOf = TypedExpr-F Run Run Run Behind Run Behind (ℕ × Run)
+
+abbrev pub constant : Bool → Constant → State → Res Value
+constant true k st = Gives (Plain (cell_of k)) st
+constant false k st = unbuilt st
 
 abbrev pub calc : Calc → State → Res Value
 calc (Val v) st = Gives v st
@@ -130,7 +135,7 @@ module _ (schema : Schema) where
   query_with q (b ∷ bs) st = unbuilt st
 
   abbrev pub expr_step : ExprOf → Run
-  expr_step (TypedExpr-F.Constant k) st = Gives (Plain (cell_of k)) st
+  expr_step (TypedExpr-F.Constant k) st = constant (is_cell k) k st
   expr_step (TypedExpr-F.Local x) st = Gives (slice_index_or st.locals x null) st
   expr_step (TypedExpr-F.Chain e os) st = bind (e st) (chained os)
   expr_step (TypedExpr-F.Convert c e) st = bind (e st) (converted c)

@@ -1,5 +1,6 @@
 -- Values, operators on them, and their texts (docs/language.md, "Whole numbers" and "What code does").
-use Rattle.std.specs.Prelude.{ℕ, ℤ, zero, suc, pos, negsuc, List, [], ◌∷◌, ◌++◌, codes, slice_get, Option, None, Some}
+use Rattle.std.specs.Prelude.{ℕ, ℤ, zero, suc, pos, negsuc, ◌^◌, nat_lt, Bool, true, List, [], ◌∷◌, ◌++◌, codes, slice_get, Option, None, Some}
+use Rattle.std.specs.Str.{is_utf8}
 use Rattle.std.specs.Int.{w32, int_wrapping_add, int_wrapping_sub, int_wrapping_mul, int_wrapping_div, int_wrapping_neg}
 use Rattle.apex_num.specs.declared.cell.Cell.{Cell}
 use Rattle.apex_num.specs.declared.cell.Cell.TheVariants as C
@@ -28,6 +29,12 @@ cell_of (K.Bool b) = C.Bool b
 cell_of (K.Whole n) = C.Whole n
 cell_of (K.Decimal n) = C.Num (pos n)
 cell_of (K.Text t) = C.Text t
+
+-- whether there is such a cell: texts are UTF-8, and Decimals have 19 digits at most; the checker makes no other constants
+abbrev pub is_cell : Constant → Bool
+is_cell (K.Decimal n) = nat_lt n (10 ^ 19)
+is_cell (K.Text t) = is_utf8 t
+is_cell _ = true
 
 -- ---- operators on Integers: they wrap at 32 bits, a division drops the fraction, and one by zero throws
 
