@@ -60,7 +60,7 @@ pub struct SaveRun {
     /// The number of the object.
     pub object: usize,
     /// The records that aren't loaded yet.
-    pub rest: Stack<SaveRow>,
+    pub rest: Items<SaveRow>,
     /// How many records stand before the chunk.
     pub place: usize,
     /// The Ids of the records of earlier chunks.

@@ -18,11 +18,13 @@ use Rattle.typed_meaning.specs.Runs.{ended, run_of, first_state, run}
 use Rattle.typed_code.specs.declared.code.Config.{Config}
 use Rattle.typed_code.specs.declared.code.Image.{Image}
 use Rattle.typed_code.proofs.Fetch.{fetch_none}
+use Rattle.typed_code.specs.Checked.{IsFed}
 use Rattle.typed_code.specs.Machine.{Next, Goes, Asks, Over, Stuck, reply_of, act, step, given, over_at, answered, drive, steps, Ends, start}
 use Rattle.typed_compiler.specs.Code.{block_code}
 use Rattle.typed_compiler.specs.Means.{Means, CodeMeansBlocks}
 use Rattle.typed_compiler.proofs.Simulates.{Holds, config, world, same_reply, At, Stopped, stepped, Runs}
 use Rattle.typed_compiler.proofs.Trees.{stmts_at}
+use Rattle.typed_compiler.proofs.Feeds.{block_fed}
 
 module _ (schema : Schema) (session request user : ℕ) (image : Image) where
   -- ---- on a tape a machine has one end, and comes to it in one number of steps
@@ -82,6 +84,7 @@ module _ (schema : Schema) (session request user : ℕ) (image : Image) where
 
 pub means : CodeMeansBlocks
 means block image c = record {
+  checked = record { fed = subst (λ is. IsFed is 0) (sym c) (block_fed block) };
   ends = λ schema session request user tape. comes schema session request user image block c tape;
   only = λ schema session request user tape n r h.
       let e = comes schema session request user image block c tape in ends_unique schema session request user image n e.0 start tape r (run schema session request user block tape) h e.1;

@@ -6,11 +6,13 @@ use Rattle.tenant_trails.specs.Runs.{Run}
 use Rattle.typed_statements.specs.declared.stmt.TypedStmt.{TypedStmt}
 use Rattle.typed_meaning.specs.Runs.{run}
 use Rattle.typed_code.specs.declared.code.Image.{Image}
+use Rattle.typed_code.specs.Checked.{IsChecked}
 use Rattle.typed_code.specs.Machine.{Ends, start}
 use Rattle.typed_compiler.specs.Code.{block_code}
 
--- on each tape the machine asks what the block asks, or ends as it does, and in no other way
+-- the image is checked, and on each tape its machine asks what the block asks, or ends as it does, and in no other way
 pub record Means (block : List TypedStmt) (image : Image) : Type 0 where
+  pub checked : IsChecked image
   pub ends : (schema : Schema) (session request user : ℕ) (tape : List Answer) → (n : ℕ) × Ends schema session request user image start tape n (run schema session request user block tape)
   pub only : (schema : Schema) (session request user : ℕ) (tape : List Answer) (n : ℕ) (r : Run) → Ends schema session request user image start tape n r → r ≡ run schema session request user block tape
 
