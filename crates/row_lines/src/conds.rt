@@ -20,11 +20,19 @@ fn op_of(sign: char) -> Option<CondOp> {
     }
 }
 
-fn path_of(alloc: Global, field: &str) -> Path {
-    Path {
-        parents: Items::new(alloc),
-        field: field.parse().unwrap_or(0),
+// Fields with dots between them: all but the last one lead to parents.
+fn path_of(alloc: Global, written: &str) -> Result<Path, AllocError> {
+    let mut parents = Items::new(alloc);
+    let mut field = 0;
+    let mut is_first = true;
+    for word in written.split('.') {
+        if !is_first {
+            parents.push(field)?;
+        }
+        is_first = false;
+        field = word.parse().unwrap_or(0);
     }
+    Ok(Path { parents, field })
 }
 
 fn within(alloc: Global, field: &str, negated: bool, list: &str) -> Result<Cond, AllocError> {
@@ -32,7 +40,7 @@ fn within(alloc: Global, field: &str, negated: bool, list: &str) -> Result<Cond,
     for word in list.split(',') {
         terms.push(Term::Given(cell_of(alloc, word)?))?;
     }
-    let path = path_of(alloc, field);
+    let path = path_of(alloc, field)?;
     Ok(Cond::Within(path, negated, Terms::Given(terms)))
 }
 
@@ -47,7 +55,7 @@ fn simple(alloc: Global, written: &str) -> Result<Option<Cond>, AllocError> {
     for sign in ['=', '!', '<', '{', '>', '}', '~'] {
         if let Some((field, cell)) = written.split_once(sign) {
             if let Some(op) = op_of(sign) {
-                let path = path_of(alloc, field);
+                let path = path_of(alloc, field)?;
                 let term = Term::Given(cell_of(alloc, cell)?);
                 return Ok(Some(Cond::Compare(path, op, term)));
             }

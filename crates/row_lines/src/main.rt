@@ -2,7 +2,9 @@
 //! text is like the pattern. `holds CELLS ; CONDITION` prints whether a condition holds of a row with these cells.
 //! `sees OBJECT CHANGES ; IDS` prints the rows of an object that a transaction sees over what a store answered, and
 //! `writes SESSION REQUEST CHANGES` what it writes. `stores WRITES ; TENANT OBJECT CONDITION` prints the rows of a
-//! tenant's object for which a condition holds, behind writes of tenants with ` | ` between them.
+//! tenant's object for which a condition holds, behind writes of tenants with ` | ` between them. `goes OBJECT WORDS`
+//! prints the rows of an object behind statements that end and are undone, and `asks CONDITION` for how many conditions a
+//! query with this one asks its store.
 #![tactic(auto)]
 
 mod cells;
@@ -11,6 +13,7 @@ mod overlays;
 mod stores;
 
 use apex_io::{StdSource, read_all};
+use query_questions::local_part;
 use row_conditions::{holds, text_like};
 use std::alloc::{AllocError, Global};
 use std::process::ExitCode;
@@ -40,6 +43,16 @@ fn holds_line(alloc: Global, text: &str) -> Result<String, AllocError> {
     }
 }
 
+fn asks_line(alloc: Global, text: &str) -> Result<String, AllocError> {
+    match conds::cond_of(alloc, text)? {
+        Some(cond) => {
+            let asked = local_part(alloc, &cond)?;
+            format!(in alloc; "{}", asked.len())
+        }
+        None => String::from_str(alloc, "no condition"),
+    }
+}
+
 // What is told of a line.
 fn answer(alloc: Global, line: &str) -> Result<String, AllocError> {
     let (word, text) = line.split_once(' ').unwrap_or((line, ""));
@@ -49,6 +62,8 @@ fn answer(alloc: Global, line: &str) -> Result<String, AllocError> {
         "sees" => overlays::seen(alloc, text),
         "writes" => overlays::written(alloc, text),
         "stores" => stores::stored(alloc, text),
+        "goes" => overlays::journal_rows(alloc, text),
+        "asks" => asks_line(alloc, text),
         _ => String::from_str(alloc, "no such word"),
     }
 }

@@ -1,9 +1,10 @@
-// Changes, written so: `+OBJECT:ID:TEXT` is a row that is written, with a text as its cell 1; `-ID` an Id that is removed.
+// Changes, written so: `+OBJECT:ID:TEXT` is a row that is written, with a text as its cell 1; `-ID` an Id that is removed;
+// and of a journal `(`, `)` and `~`, where a statement begins, ends, and is undone.
 
 use crate::cells::{id_of, row_of};
 use apex_schema::{Row, Ticket};
 use std::alloc::{AllocError, Global};
-use txn_overlay::Overlay;
+use txn_overlay::{Journal, Overlay};
 
 fn one_row(alloc: Global, written: &str) -> Result<Option<Row>, AllocError> {
     let Some((object, rest)) = written.split_once(':') else {
@@ -85,6 +86,31 @@ pub fn written(alloc: Global, text: &str) -> Result<String, AllocError> {
         let id = id.bytes();
         let shown = format!(in alloc; "-{} ", str::from_utf8(&id).unwrap_or("?"))?;
         out.push_str(shown.as_str())?;
+    }
+    Ok(out)
+}
+
+// The rows of an object behind statements that end and are undone.
+pub fn journal_rows(alloc: Global, text: &str) -> Result<String, AllocError> {
+    let (object, words) = text.split_once(' ').unwrap_or((text, ""));
+    let mut journal = Journal::new(alloc);
+    for word in words.split_whitespace() {
+        match word {
+            "(" => journal.save()?,
+            ")" => journal.keep(),
+            "~" => journal.undo(),
+            _ => {
+                if let Some(row) = one_row(alloc, word.strip_prefix("+").unwrap_or(word))? {
+                    journal.put(row)?;
+                }
+            }
+        }
+    }
+    let none: Vec<Row> = Vec::new(alloc);
+    let merged = journal.overlay().merge(object.parse().unwrap_or(0), none)?;
+    let mut out = String::new(alloc);
+    for row in merged.as_slice() {
+        add_row(alloc, &mut out, row)?;
     }
     Ok(out)
 }

@@ -4,7 +4,7 @@ use Rattle.std.specs.Prelude.{slice_get, leb}
 use Rattle.std.proofs.lemmas.List.{length-set, length-drop}
 use Rattle.apex_num.specs.declared.kind.LimitKind.{LimitKind}
 use Rattle.apex_num.specs.declared.kind.LimitKind.TheVariants.{Dml, Saved, Steps, Alloc}
-use Rattle.limit_meter.specs.Charges.{Entry, Charged, limit_of, counter, fits, count_of, with_count, Counts}
+use Rattle.limit_meter.specs.Charges.{Charged, limit_of, fits, count_of, with_count}
 use Rattle.limit_meter.proofs.Counted.{counts_charge}
 use Rattle.platform_errors.specs.declared.record.RecordError.{RecordError}
 use Rattle.platform_errors.specs.declared.thrown.Thrown.{Thrown}
@@ -25,13 +25,12 @@ use Rattle.save_meaning.specs.Transactions.{Txn, Res, Gives, Stops, bind, Keeps,
 use Rattle.save_meaning.specs.declared.draft.Draft.{Draft}
 use Rattle.save_meaning.specs.declared.draft.Draft.TheVariants.{Going, Wrong}
 use Rattle.save_meaning.specs.declared.draft.Reference.{Reference}
-use Rattle.save_meaning.specs.Drafts.{judged, going, first_wrong, references, wanted, by_ids, bad_reference, invalid, written}
+use Rattle.save_meaning.specs.Drafts.{judged, going, first_wrong, references, wanted, by_ids, bad_reference, written}
 use Rattle.save_meaning.specs.Inserts
 use Rattle.save_meaning.specs.Inserts.{rows_of_answer, is_double, first_again, ids_of, loaded, is_row_share, chunk_most}
 use Rattle.save_moves.specs.declared.run.Phase.{Phase}
 use Rattle.save_moves.specs.declared.run.Phase.TheVariants as P
 use Rattle.save_moves.specs.declared.run.Finding.{Finding}
-use Rattle.save_moves.specs.declared.run.Stage.{Stage}
 use Rattle.save_moves.specs.declared.run.Stage.TheVariants as St
 use Rattle.save_moves.specs.declared.run.SaveRun.{SaveRun}
 use Rattle.save_moves.specs.declared.run.TxnState.{TxnState}
@@ -182,44 +181,44 @@ module _ {S : Type 0} (keeps : Keeps S) (keeping : IsKept keeps) (schema : Schem
             Next saved (at r (St.Find ds (ref ∷ refs) found)) s
         find_step ref refs found ds s rec post = by (wanted (keeps.txn s).overlay ref.field (going ds)) refl
             (bound (Referred found ds) Ended (Inserts.found_by keeps schema session request user (wanted (keeps.txn s).overlay ref.field (going ds)) ref s) rest post) where
-          run : SaveRun
-          run = at r (St.Find ds (ref ∷ refs) found)
+              run : SaveRun
+              run = at r (St.Find ds (ref ∷ refs) found)
 
-          with : List Row → List Finding
-          with rows = found ++ record { reference = ref; rows = rows } ∷ []
+              with : List Row → List Finding
+              with rows = found ++ record { reference = ref; rows = rows } ∷ []
 
-          rest : List Row → S → Res S (List (Reference × List Row))
-          rest rows s1 = bind (Inserts.found_all keeps schema session request user refs (going ds) s1) (λ more s2. Gives ((ref, rows) ∷ more) s2)
+              rest : List Row → S → Res S (List (Reference × List Row))
+              rest rows s1 = bind (Inserts.found_all keeps schema session request user refs (going ds) s1) (λ more s2. Gives ((ref, rows) ∷ more) s2)
 
-          -- the rows of this reference are there
-          on : (rows : List Row) (s1 : S) → Holds (Referred found ds) Ended (rest rows s1) → Next saved (at r (St.Find ds refs (with rows))) s1
-          on rows s1 h =
-              rec (with rows) s1
-              (weaken _ _ Ended (Inserts.found_all keeps schema session request user refs (going ds) s1)
-              (λ more s2 g. subst (λ ps. Next saved (at r (behind P.Refer (judged (bad_reference (length schema.users) o.fields ps) ds))) s2) (sym (found_in_more found ref rows more)) g)
-              (bound (Referred found ds) Ended (Inserts.found_all keeps schema session request user refs (going ds) s1) (λ more s2. Gives ((ref, rows) ∷ more) s2) h))
+              -- the rows of this reference are there
+              on : (rows : List Row) (s1 : S) → Holds (Referred found ds) Ended (rest rows s1) → Next saved (at r (St.Find ds refs (with rows))) s1
+              on rows s1 h =
+                  rec (with rows) s1
+                  (weaken _ _ Ended (Inserts.found_all keeps schema session request user refs (going ds) s1)
+                  (λ more s2 g. subst (λ ps. Next saved (at r (behind P.Refer (judged (bad_reference (length schema.users) o.fields ps) ds))) s2) (sym (found_in_more found ref rows more)) g)
+                  (bound (Referred found ds) Ended (Inserts.found_all keeps schema session request user refs (going ds) s1) (λ more s2. Gives ((ref, rows) ∷ more) s2) h))
 
-          looks : (ids : List (List ℕ)) → wanted (keeps.txn s).overlay ref.field (going ds) ≡ ids → (w : TxnState) → Alike saved w (keeps.txn s) → move schema session request user run w ≡ find_by schema session request user ids ds ref refs found run w
-          looks ids e w a =
-              found_object (find schema session request user ds (ref ∷ refs) found) run w same
-              ∙ ap (λ x. find_by schema session request user x ds ref refs found run w) (ap (λ (j : Layers). wanted j.now ref.field (going ds)) a.overlay ∙ e)
+              looks : (ids : List (List ℕ)) → wanted (keeps.txn s).overlay ref.field (going ds) ≡ ids → (w : TxnState) → Alike saved w (keeps.txn s) → move schema session request user run w ≡ find_by schema session request user ids ds ref refs found run w
+              looks ids e w a =
+                  found_object (find schema session request user ds (ref ∷ refs) found) run w same
+                  ∙ ap (λ x. find_by schema session request user x ds ref refs found run w) (ap (λ (j : Layers). wanted j.now ref.field (going ds)) a.overlay ∙ e)
 
-          answer : (a : Answer) (s1 : S) → Holds (Referred found ds) Ended (rest (merged (keeps.txn s1).overlay ref.to (rows_of_answer a)) s1) → Next saved (given run a) s1
-          answer a s1 g w b =
-              stays (given run a) (at r (St.Find ds refs (with (merged (keeps.txn s1).overlay ref.to (rows_of_answer a))))) w w s1
-              (ap (λ (j : Layers). Goes (at r (St.Find ds refs (with (merged j.now ref.to (rows_of_answer a))))) w) b.overlay)
-              (on (merged (keeps.txn s1).overlay ref.to (rows_of_answer a)) s1 g w b)
+              answer : (a : Answer) (s1 : S) → Holds (Referred found ds) Ended (rest (merged (keeps.txn s1).overlay ref.to (rows_of_answer a)) s1) → Next saved (given run a) s1
+              answer a s1 g w b =
+                  stays (given run a) (at r (St.Find ds refs (with (merged (keeps.txn s1).overlay ref.to (rows_of_answer a))))) w w s1
+                  (ap (λ (j : Layers). Goes (at r (St.Find ds refs (with (merged j.now ref.to (rows_of_answer a))))) w) b.overlay)
+                  (on (merged (keeps.txn s1).overlay ref.to (rows_of_answer a)) s1 g w b)
 
-          by : (ids : List (List ℕ)) → wanted (keeps.txn s).overlay ref.field (going ds) ≡ ids →
-              Holds (λ rows s1. Holds (Referred found ds) Ended (rest rows s1)) Ended (Inserts.found_by keeps schema session request user ids ref s) → Next saved run s
-          by [] e h =
-              λ w a.
-              stays run (at r (St.Find ds refs (with (merged (keeps.txn s).overlay ref.to [])))) w w s
-              (looks [] e w a ∙ ap (λ (j : Layers). Goes (at r (St.Find ds refs (with (merged j.now ref.to [])))) w) a.overlay)
-              (on (merged (keeps.txn s).overlay ref.to []) s h w a)
-          by (i ∷ is) e h =
-              ask_next saved (Read ref.to (by_ids (i ∷ is))) run s (looks (i ∷ is) e)
-              (weaken _ _ Ended (ask keeps (Read ref.to (by_ids (i ∷ is))) s) answer (bound _ Ended (ask keeps (Read ref.to (by_ids (i ∷ is))) s) (λ a s1. Gives (merged (keeps.txn s1).overlay ref.to (rows_of_answer a)) s1) h))
+              by : (ids : List (List ℕ)) → wanted (keeps.txn s).overlay ref.field (going ds) ≡ ids →
+                  Holds (λ rows s1. Holds (Referred found ds) Ended (rest rows s1)) Ended (Inserts.found_by keeps schema session request user ids ref s) → Next saved run s
+              by [] e h =
+                  λ w a.
+                  stays run (at r (St.Find ds refs (with (merged (keeps.txn s).overlay ref.to [])))) w w s
+                  (looks [] e w a ∙ ap (λ (j : Layers). Goes (at r (St.Find ds refs (with (merged j.now ref.to [])))) w) a.overlay)
+                  (on (merged (keeps.txn s).overlay ref.to []) s h w a)
+              by (i ∷ is) e h =
+                  ask_next saved (Read ref.to (by_ids (i ∷ is))) run s (looks (i ∷ is) e)
+                  (weaken _ _ Ended (ask keeps (Read ref.to (by_ids (i ∷ is))) s) answer (bound _ Ended (ask keeps (Read ref.to (by_ids (i ∷ is))) s) (λ a s1. Gives (merged (keeps.txn s1).overlay ref.to (rows_of_answer a)) s1) h))
 
         find_at : (refs : List Reference) (found : List Finding) (ds : List Draft) (s : S) →
             Holds (Referred found ds) Ended (Inserts.found_all keeps schema session request user refs (going ds) s) → Next saved (at r (St.Find ds refs found)) s
@@ -331,8 +330,8 @@ module _ {S : Type 0} (keeps : Keeps S) (keeping : IsKept keeps) (schema : Schem
             (bound settles Ended (Inserts.enter keeps schema session request user (Inserts.validate keeps schema session request user r.object o) d3 s3) _ h3)))
             (bound settles Ended (Inserts.enter keeps schema session request user (Inserts.nothing keeps schema session request user) d2 s2) _ h2)))
             (bound settles Ended (Inserts.enter keeps schema session request user (Inserts.refer keeps schema session request user o) ds s) _ post)) where
-          write_first : (es : List Draft) (s1 : S) → Holds (λ fs s2. Next saved (at r (behind P.Write fs)) s2) Ended (Inserts.write keeps schema session request user o es s1) → Next saved (at r (St.Inside P.Write es)) s1
-          write_first es s1 h = plain saved (at r (St.Inside P.Write es)) (at r (St.Write [] es)) s1 (λ w. found_object (inside schema session request user P.Write es) (at r (St.Inside P.Write es)) w same) (write_at es [] s1 h)
+              write_first : (es : List Draft) (s1 : S) → Holds (λ fs s2. Next saved (at r (behind P.Write fs)) s2) Ended (Inserts.write keeps schema session request user o es s1) → Next saved (at r (St.Inside P.Write es)) s1
+              write_first es s1 h = plain saved (at r (St.Inside P.Write es)) (at r (St.Write [] es)) s1 (λ w. found_object (inside schema session request user P.Write es) (at r (St.Inside P.Write es)) w same) (write_at es [] s1 h)
 
       -- ---- the chunks, and the statement
 
@@ -370,43 +369,43 @@ module _ {S : Type 0} (keeps : Keeps S) (keeping : IsKept keeps) (schema : Schem
             charge_next (start ∷ outer) Steps (length chunk) run first s (λ w. found_object (load schema session request user (row ∷ rows)) run w refl)
             (weaken _ _ Ended (charge keeps Steps (length chunk) s) (λ u s1 h. phases_at first refl (start ∷ outer) (loaded user object o chunk) s1 (weaken _ _ Ended (phases (loaded user object o chunk) s1) settles_so h))
             (bound whole Ended (charge keeps Steps (length chunk) s) (λ u s1. phases (loaded user object o chunk) s1) charges)) where
-          chunk : List SaveRow
-          chunk = take chunk_most (row ∷ rows)
+              chunk : List SaveRow
+              chunk = take chunk_most (row ∷ rows)
 
-          rest : List SaveRow
-          rest = drop chunk_most (row ∷ rows)
+              rest : List SaveRow
+              rest = drop chunk_most (row ∷ rows)
 
-          run : SaveRun
-          run = saves (row ∷ rows) place ids
+              run : SaveRun
+              run = saves (row ∷ rows) place ids
 
-          first : SaveRun
-          first = at (saves rest place ids) (St.Enter P.Refer (loaded user object o chunk))
+              first : SaveRun
+              first = at (saves rest place ids) (St.Enter P.Refer (loaded user object o chunk))
 
-          phases : List Draft → S → Res S (List Draft)
-          phases ds s1 =
-              bind (Inserts.enter keeps schema session request user (Inserts.refer keeps schema session request user o) ds s1) (λ d2 s2.
-              bind (Inserts.enter keeps schema session request user (Inserts.nothing keeps schema session request user) d2 s2) (λ d3 s3.
-              bind (Inserts.enter keeps schema session request user (Inserts.validate keeps schema session request user object o) d3 s3) (λ d4 s4.
-              bind (Inserts.enter keeps schema session request user (Inserts.write keeps schema session request user o) d4 s4) (λ d5 s5.
-              bind (Inserts.enter keeps schema session request user (Inserts.nothing keeps schema session request user) d5 s5) (λ d6 s6.
-              Inserts.enter keeps schema session request user (Inserts.nothing keeps schema session request user) d6 s6)))))
+              phases : List Draft → S → Res S (List Draft)
+              phases ds s1 =
+                  bind (Inserts.enter keeps schema session request user (Inserts.refer keeps schema session request user o) ds s1) (λ d2 s2.
+                  bind (Inserts.enter keeps schema session request user (Inserts.nothing keeps schema session request user) d2 s2) (λ d3 s3.
+                  bind (Inserts.enter keeps schema session request user (Inserts.validate keeps schema session request user object o) d3 s3) (λ d4 s4.
+                  bind (Inserts.enter keeps schema session request user (Inserts.write keeps schema session request user o) d4 s4) (λ d5 s5.
+                  bind (Inserts.enter keeps schema session request user (Inserts.nothing keeps schema session request user) d5 s5) (λ d6 s6.
+                  Inserts.enter keeps schema session request user (Inserts.nothing keeps schema session request user) d6 s6)))))
 
-          later : S → Res S (List (List ℕ))
-          later s1 = Inserts.chunks_from keeps schema session request user n (place + chunk_most) object o start rest s1
+              later : S → Res S (List (List ℕ))
+              later s1 = Inserts.chunks_from keeps schema session request user n (place + chunk_most) object o start rest s1
 
-          whole : List Draft → S → Type 0
-          whole ds s1 = Holds (λ more s2. Finished (ids ++ more) s2) Ended (Inserts.settle keeps schema session request user (first_wrong place ds) start ds later s1)
+              whole : List Draft → S → Type 0
+              whole ds s1 = Holds (λ more s2. Finished (ids ++ more) s2) Ended (Inserts.settle keeps schema session request user (first_wrong place ds) start ds later s1)
 
-          -- loading is its charge
-          charge_first : (c : Res S (Unit {0})) → Holds whole Ended (bind (bind c (λ u s1. Gives (loaded user object o chunk) s1)) phases) → Holds whole Ended (bind c (λ u s1. phases (loaded user object o chunk) s1))
-          charge_first (Gives u s1) h = h
-          charge_first (Stops why s1) h = h
+              -- loading is its charge
+              charge_first : (c : Res S (Unit {0})) → Holds whole Ended (bind (bind c (λ u s1. Gives (loaded user object o chunk) s1)) phases) → Holds whole Ended (bind c (λ u s1. phases (loaded user object o chunk) s1))
+              charge_first (Gives u s1) h = h
+              charge_first (Stops why s1) h = h
 
-          charges : Holds whole Ended (bind (charge keeps Steps (length chunk) s) (λ u s1. phases (loaded user object o chunk) s1))
-          charges = charge_first (charge keeps Steps (length chunk) s) (bound (λ more s1. Finished (ids ++ more) s1) Ended (Inserts.save_chunk keeps schema session request user object o chunk s) _ post)
+              charges : Holds whole Ended (bind (charge keeps Steps (length chunk) s) (λ u s1. phases (loaded user object o chunk) s1))
+              charges = charge_first (charge keeps Steps (length chunk) s) (bound (λ more s1. Finished (ids ++ more) s1) Ended (Inserts.save_chunk keeps schema session request user object o chunk s) _ post)
 
-          settles_so : (ds : List Draft) (s1 : S) → whole ds s1 → Next (start ∷ outer) (at first (St.Settle ds)) s1
-          settles_so ds s1 h = settle_at rest place ids ds s1 later (λ s2 g. rec (ids ++ ids_of (going ds)) s2 g) h
+              settles_so : (ds : List Draft) (s1 : S) → whole ds s1 → Next (start ∷ outer) (at first (St.Settle ds)) s1
+              settles_so ds s1 h = settle_at rest place ids ds s1 later (λ s2 g. rec (ids ++ ids_of (going ds)) s2 g) h
 
         chunks_at : (n : ℕ) (rows : List SaveRow) (place : ℕ) (ids : List (List ℕ)) (s : S) → length rows ≤ n →
             Holds (λ more s1. Finished (ids ++ more) s1) Ended (Inserts.chunks_from keeps schema session request user n place object o start rows s) →
@@ -454,23 +453,23 @@ module _ {S : Type 0} (keeps : Keeps S) (keeping : IsKept keeps) (schema : Schem
       insert_at s post =
           charge_next outer Dml 1 charging counting s (λ w. refl)
           (weaken _ _ Ended (charge keeps Dml 1 s) count_at (bound Finished Ended (charge keeps Dml 1 s) _ post)) where
-        double : Bool
-        double = is_double (map (λ (r : SaveRow). r.key) rows)
+            double : Bool
+            double = is_double (map (λ (r : SaveRow). r.key) rows)
 
-        again : Option (List ℕ)
-        again = first_again [] (map (λ (r : SaveRow). r.id) rows)
+            again : Option (List ℕ)
+            again = first_again [] (map (λ (r : SaveRow). r.id) rows)
 
-        there : Option Object
-        there = slice_get schema.objects object
+            there : Option Object
+            there = slice_get schema.objects object
 
-        goes_on : TxnState → Move
-        goes_on v = without_double double again v (begun there counting v)
+            goes_on : TxnState → Move
+            goes_on v = without_double double again v (begun there counting v)
 
-        count_at : (u : Unit {0}) (s1 : S) → Holds Finished Ended (bind (charge keeps Saved (length rows) s1) (λ v s2. Inserts.without_double keeps schema session request user double again (Inserts.of_object keeps schema session request user there object rows) s2)) → Next outer counting s1
-        count_at u s1 h w a = by (fits Saved (length rows) (keeps.txn s1).charges) (room outer w s1 Saved (length rows) a) (bound Finished Ended (charge keeps Saved (length rows) s1) _ h) where
-          by : (b : Bool) → leb (count_of w.meter Saved + length rows) (limit_of Saved) ≡ b →
-              Holds (λ v s2. Holds Finished Ended (Inserts.without_double keeps schema session request user double again (Inserts.of_object keeps schema session request user there object rows) s2)) Ended (charge_if keeps b Saved (length rows) s1) → Runs counting w s1
-          by true e g =
-              looks_at double again there w (charged_state Saved (length rows) w) s1 (after_charge Saved (length rows) s1) (record (keeps.txn s1) { charges = Charged Saved (length rows) ∷ (keeps.txn s1).charges }) refl refl refl
-              (ap (λ b. charged_if b Saved (length rows) w goes_on) e) (alike_after outer w s1 Saved (length rows) a) g
-          by false e g = d.halts counting w s1 Saved (limit_of Saved + 1) (ap (λ b. charged_if b Saved (length rows) w goes_on) e) (g outer w a)
+            count_at : (u : Unit {0}) (s1 : S) → Holds Finished Ended (bind (charge keeps Saved (length rows) s1) (λ v s2. Inserts.without_double keeps schema session request user double again (Inserts.of_object keeps schema session request user there object rows) s2)) → Next outer counting s1
+            count_at u s1 h w a = by (fits Saved (length rows) (keeps.txn s1).charges) (room outer w s1 Saved (length rows) a) (bound Finished Ended (charge keeps Saved (length rows) s1) _ h) where
+              by : (b : Bool) → leb (count_of w.meter Saved + length rows) (limit_of Saved) ≡ b →
+                  Holds (λ v s2. Holds Finished Ended (Inserts.without_double keeps schema session request user double again (Inserts.of_object keeps schema session request user there object rows) s2)) Ended (charge_if keeps b Saved (length rows) s1) → Runs counting w s1
+              by true e g =
+                  looks_at double again there w (charged_state Saved (length rows) w) s1 (after_charge Saved (length rows) s1) (record (keeps.txn s1) { charges = Charged Saved (length rows) ∷ (keeps.txn s1).charges }) refl refl refl
+                  (ap (λ b. charged_if b Saved (length rows) w goes_on) e) (alike_after outer w s1 Saved (length rows) a) g
+              by false e g = d.halts counting w s1 Saved (limit_of Saved + 1) (ap (λ b. charged_if b Saved (length rows) w goes_on) e) (g outer w a)

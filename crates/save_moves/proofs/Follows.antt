@@ -1,11 +1,7 @@
 -- On every tape the moves of an insert come to what it means.
-use Rattle.std.proofs.Common.{◌≡◌, refl, ap, sym, subst, ◌∙◌, ℕ, zero, suc, List, [], ◌∷◌, Some}
-use Rattle.apex_num.specs.declared.kind.LimitKind.{LimitKind}
-use Rattle.platform_errors.specs.declared.thrown.Thrown.{Thrown}
+use Rattle.std.proofs.Common.{◌≡◌, refl, ap, subst, ◌∙◌, ℕ, suc, List, Some}
 use Rattle.apex_schema.specs.declared.schema.Schema.{Schema}
-use Rattle.apex_schema.specs.declared.query.Question.{Question}
 use Rattle.apex_schema.specs.declared.query.Answer.{Answer}
-use Rattle.apex_schema.specs.declared.request.SaveRow.{SaveRow}
 use Rattle.apex_schema.specs.Overlays.{Overlay}
 use Rattle.save_meaning.specs.Transactions as Save
 use Rattle.save_meaning.specs.Transactions.{Txn, Res, Gives, Stops, IsKept}
@@ -13,8 +9,8 @@ use Rattle.save_meaning.specs.Inserts.{insert}
 use Rattle.save_meaning.specs.Laws.{alone}
 use Rattle.save_moves.specs.declared.run.SaveRun.{SaveRun}
 use Rattle.save_moves.specs.declared.run.TxnState.{TxnState}
-use Rattle.save_moves.specs.Moves.{Move, Goes, Asks, Done, Throws, Halts, move, given, first_run}
-use Rattle.save_moves.specs.Laws.{Alike, Ending, Saved, Threw, Halted, Wants, onward, answered, moves, IsEnd, MovesInsert}
+use Rattle.save_moves.specs.Moves.{Move, Goes, Asks, Done, Throws, Halts, move, given}
+use Rattle.save_moves.specs.Laws.{Ending, Saved, Threw, Halted, Wants, onward, answered, moves, IsEnd, MovesInsert}
 use Rattle.save_moves.proofs.Drives.{Holds, Drives, Finished, Ended, insert_at}
 
 keeping : IsKept alone

@@ -1,5 +1,5 @@
 -- An image whose body is the code of a block means the block.
-use Rattle.std.proofs.Common.{◌≡◌, ℕ, zero, suc, List, [], ◌∷◌, ◌++◌, drop, Option, None, Some, refl, sym, ap, ◌∙◌, subst, append-nil}
+use Rattle.std.proofs.Common.{◌≡◌, ℕ, zero, suc, List, [], ◌∷◌, Option, None, Some, refl, sym, ap, ◌∙◌, subst, append-nil}
 use Rattle.limit_meter.proofs.Counted.{counts_none}
 use Rattle.platform_errors.specs.Messages.{class, message}
 use Rattle.builtin_table.specs.Answers.{class_name}
@@ -19,10 +19,10 @@ use Rattle.typed_code.specs.declared.code.Config.{Config}
 use Rattle.typed_code.specs.declared.code.Image.{Image}
 use Rattle.typed_code.proofs.Fetch.{fetch_none}
 use Rattle.typed_code.specs.Checked.{IsFed}
-use Rattle.typed_code.specs.Machine.{Next, Goes, Asks, Over, Stuck, reply_of, act, step, given, over_at, answered, drive, steps, Ends, start}
+use Rattle.typed_code.specs.Machine.{Next, Goes, Asks, Over, Stuck, act, step, given, over_at, answered, drive, steps, Ends, start}
 use Rattle.typed_compiler.specs.Code.{block_code}
-use Rattle.typed_compiler.specs.Means.{Means, CodeMeansBlocks}
-use Rattle.typed_compiler.proofs.Simulates.{Holds, config, world, same_reply, At, Stopped, stepped, Runs}
+use Rattle.typed_compiler.specs.Means.{CodeMeansBlocks}
+use Rattle.typed_compiler.proofs.Simulates.{Holds, config, same_reply, At, Stopped, stepped}
 use Rattle.typed_compiler.proofs.Trees.{stmts_at}
 use Rattle.typed_compiler.proofs.Feeds.{block_fed}
 
@@ -57,10 +57,12 @@ module _ (schema : Schema) (session request user : ℕ) (image : Image) where
     finished st is = record {
       by = λ pc w a d.
           stepped schema session request user image r (config pc [] st w) st.world.txn.tape (act schema session request user None (config pc [] st w))
-          (ap (λ o. act schema session request user o (config pc [] st w)) (fetch_none pc image.body d))
-          (0, ap Some
-          (ap (λ x. Trail.Ends x (writes_of session request w.overlay.now)) (same_reply O.Ok [] st w a)
-          ∙ ap (λ (j : Layers). Trail.Ends (ended O.Ok st.world) (writes_of session request j.now)) a.overlay ∙ is));
+          (ap (λ o. act schema session request user o (config pc [] st w)) (fetch_none pc image.body d)) (
+            0,
+            ap Some
+                (ap (λ x. Trail.Ends x (writes_of session request w.overlay.now)) (same_reply O.Ok [] st w a)
+                ∙ ap (λ (j : Layers). Trail.Ends (ended O.Ok st.world) (writes_of session request j.now)) a.overlay ∙ is),
+          );
     }
 
     outermost : (res : Res (Unit {0})) → run_of session request res ≡ r → Holds (λ u s. At schema session request user image r [] [] s) (Stopped schema session request user image r) res
@@ -79,8 +81,8 @@ module _ (schema : Schema) (session request user : ℕ) (image : Image) where
       (stmts_at schema session request user image r block [] [] (first_state tape)
       (outermost r (does_all schema session request user block (first_state tape)) refl)).by 0 start.world.txn
       (record { overlay = refl; minted = refl; counts = counts_none; eight = refl }) (c ∙ sym (append-nil (block_code block))) where
-    r : Trail.Run
-    r = run schema session request user block tape
+        r : Trail.Run
+        r = run schema session request user block tape
 
 pub means : CodeMeansBlocks
 means block image c = record {

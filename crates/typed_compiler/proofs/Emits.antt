@@ -2,13 +2,11 @@
 use Rattle.std.proofs.Common.{◌≡◌, ℕ, ◌+◌, ◌<◌, Bool, true, false, List, [], ◌∷◌, ◌++◌, length, take, get_or, map, refl, sym, ap, ◌∙◌, subst, append_assoc, append-nil, Option, None, Some}
 use Rattle.std.specs.Prelude.{cond, IfSome, IfNone}
 use Rattle.std.specs.Str.{IsUtf8, is_utf8}
-use Rattle.std.proofs.lemmas.List.{take_more, map-append}
+use Rattle.std.proofs.lemmas.List.{take_more}
 use Rattle.std.proofs.lemmas.Str.{is_utf8-from_IsUtf8, IsUtf8-from_is_utf8}
-use Rattle.apex_num.specs.declared.cell.Cell.{Cell}
 use Rattle.apex_num.specs.declared.cell.Cell.TheVariants as C
 use Rattle.typed_statements.specs.declared.stmt.TypedLocal.{TypedLocal}
 use Rattle.typed_trees.specs.declared.expr.TypedPair.{TypedPair}
-use Rattle.typed_code.specs.declared.code.Instr.{Instr}
 use Rattle.typed_code.specs.declared.code.Instr.TheVariants as I
 use Rattle.typed_compiler.specs.Code.{Code, joined, pairs_code, fields_of, pair_code, local_code, locals_code}
 

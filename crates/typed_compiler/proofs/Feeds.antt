@@ -1,17 +1,14 @@
 -- Compiled code finds its operands.
-use Rattle.std.proofs.Common.{◌≡◌, ℕ, zero, suc, ◌+◌, ◌-◌, ◌≤◌, Bool, true, false, List, [], ◌∷◌, ◌++◌, length, map, Option, None, Some, refl, sym, ap, ◌∙◌, subst, append_assoc, arith}
+use Rattle.std.proofs.Common.{◌≡◌, ℕ, suc, ◌+◌, ◌-◌, ◌≤◌, Bool, true, false, List, [], ◌∷◌, ◌++◌, length, map, Option, None, Some, refl, sym, ap, ◌∙◌, subst, append_assoc, arith}
 use Rattle.apex_num.specs.declared.cell.Cell.TheVariants as C
 use Rattle.apex_schema.specs.declared.query.Cond.{Cond}
 use Rattle.apex_schema.specs.declared.query.Cond.TheVariants.{All}
 use Rattle.apex_schema.specs.Conds.{local_part}
-use Rattle.apex_schema.specs.declared.query.Query.{Query}
-use Rattle.apex_schema.specs.declared.query.Query.TheViews.{out-Query}
-use Rattle.apex_syntax.specs.declared.stmt.DmlOp.{DmlOp}
 use Rattle.apex_syntax.specs.declared.stmt.DmlOp.TheVariants as Dml
 use Rattle.typed_statements.specs.declared.stmt.TypedCatch.{TypedCatch}
 use Rattle.typed_statements.specs.declared.stmt.TypedLocal.{TypedLocal}
 use Rattle.typed_statements.specs.declared.stmt.TypedStmt.{TypedStmt}
-use Rattle.typed_statements.specs.declared.stmt.TypedStmt.TheOpen.{TypedStmt-F, TypedCatch-F}
+use Rattle.typed_statements.specs.declared.stmt.TypedStmt.TheOpen.{TypedStmt-F}
 use Rattle.typed_statements.specs.declared.stmt.TypedStmt.TheViews.{roll-TypedStmt}
 use Rattle.typed_statements.specs.declared.stmt.TypedStmt.TheFolds.{fold-TypedCatch, fold-roll-TypedStmt, ind-TypedStmt, map-TypedStmt}
 use Rattle.typed_trees.specs.declared.expr.CollectionKind.TheVariants as Kind
@@ -31,7 +28,6 @@ use Rattle.typed_trees.specs.declared.expr.TypedPart.{TypedPart}
 use Rattle.typed_trees.specs.declared.expr.TypedBind.TheOpen.{TypedExpr-F, TypedNew-F, TypedOperand-F, TypedPair-F}
 use Rattle.typed_trees.specs.declared.expr.TypedBind.TheViews.{roll-TypedExpr, roll-TypedNew, roll-TypedOperand, roll-TypedPair}
 use Rattle.typed_trees.specs.declared.expr.TypedBind.TheFolds.{fold-TypedBind, fold-TypedPart, fold-TypedItem, fold-roll-TypedExpr, fold-roll-TypedNew, fold-roll-TypedOperand, fold-roll-TypedPair, ind-TypedExpr, map-TypedExpr, map-TypedNew, map-TypedOperand, map-TypedPair}
-use Rattle.typed_meaning.specs.Expressions.{is_count}
 use Rattle.typed_meaning.specs.Values.{cell_of, is_cell}
 use Rattle.typed_code.specs.declared.code.Instr.{Instr}
 use Rattle.typed_code.specs.declared.code.Instr.TheVariants as I

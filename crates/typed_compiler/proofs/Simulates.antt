@@ -1,16 +1,14 @@
 -- What the machine comes to is what the block means, form by form: from a place it comes there if it does so from behind it.
-use Rattle.std.proofs.Common.{◌≡◌, ℕ, zero, suc, ◌+◌, ◌*◌, pos, map, None, Bool, true, false, List, [], ◌∷◌, ◌++◌, length, drop, Option, Some, refl, sym, ap, ◌∙◌, subst, append_assoc, append-nil, zero-add, arith}
+use Rattle.std.proofs.Common.{◌≡◌, ℕ, suc, ◌+◌, ◌*◌, pos, map, None, Bool, true, false, List, [], ◌∷◌, ◌++◌, length, drop, Option, Some, refl, sym, ap, ◌∙◌, subst, append_assoc, append-nil, zero-add, arith}
 use Rattle.std.specs.Prelude.{leb, slice_get, slice_index_or, replicate}
 use Rattle.std.proofs.lemmas.List.{length-set}
 use Rattle.apex_num.specs.declared.cell.Cell.{Cell}
 use Rattle.apex_num.specs.declared.cell.Cell.TheVariants as C
 use Rattle.apex_num.specs.declared.kind.LimitKind.{LimitKind}
 use Rattle.apex_num.specs.declared.kind.LimitKind.TheVariants.{Queries, Rows, Dml, Saved as Rows', Steps, Alloc}
-use Rattle.limit_meter.specs.Charges.{Charged, limit_of, counter, fits, count_of as count_in, with_count, Counts}
+use Rattle.limit_meter.specs.Charges.{Charged, limit_of, counter, fits, count_of as count_in, with_count}
 use Rattle.limit_meter.proofs.Counted.{counts_charge}
 use Rattle.platform_errors.specs.declared.thrown.Thrown.{Thrown}
-use Rattle.platform_errors.specs.Messages.{class, message}
-use Rattle.builtin_table.specs.Answers.{class_name}
 use Rattle.apex_schema.specs.declared.query.Answer.{Answer}
 use Rattle.apex_schema.specs.declared.query.Cond.{Cond}
 use Rattle.apex_schema.specs.declared.query.Cond.TheVariants.{All}
@@ -19,7 +17,6 @@ use Rattle.apex_schema.specs.declared.query.Question.TheVariants.{Read}
 use Rattle.apex_schema.specs.Conds.{local_part}
 use Rattle.apex_schema.specs.declared.reply.Outcome.{Outcome}
 use Rattle.apex_schema.specs.declared.reply.Outcome.TheVariants as O
-use Rattle.apex_schema.specs.declared.reply.Reply.{Reply}
 use Rattle.apex_schema.specs.declared.schema.Schema.{Schema}
 use Rattle.apex_schema.specs.Overlays.{Overlay}
 use Rattle.refused_requests.specs.Refusals.{no_writes, refusal, not_yet}
@@ -27,7 +24,7 @@ use Rattle.tenant_trails.specs.Runs as Trail
 use Rattle.txn_heap.specs.declared.thing.Thing.{Thing}
 use Rattle.txn_heap.specs.declared.thing.Thing.TheVariants as T
 use Rattle.txn_heap.specs.declared.thing.Value.{Value}
-use Rattle.txn_heap.specs.declared.thing.Value.TheVariants.{Plain, Object}
+use Rattle.txn_heap.specs.declared.thing.Value.TheVariants.{Plain}
 use Rattle.save_meaning.specs.Counts.{count, count_of}
 use Rattle.save_meaning.specs.Inserts.{rows_of_answer, insert}
 use Rattle.save_meaning.specs.Transactions as Save
@@ -42,7 +39,7 @@ use Rattle.typed_meaning.specs.Values.{null, cell_of, Calc, Val, Fails, Other, i
 use Rattle.typed_meaning.specs.Expressions as E
 use Rattle.typed_meaning.specs.Statements as D
 use Rattle.typed_statements.specs.declared.stmt.Saved.{Saved}
-use Rattle.typed_meaning.specs.Runs.{counts_of, ended, run_of}
+use Rattle.typed_meaning.specs.Runs.{counts_of, ended}
 use Rattle.typed_trees.specs.declared.expr.Constant.{Constant}
 use Rattle.typed_trees.specs.declared.expr.Conversion.{Conversion}
 use Rattle.typed_trees.specs.declared.expr.Conversion.TheVariants as Conv
@@ -62,8 +59,8 @@ use Rattle.typed_code.specs.declared.code.Instr.TheVariants as I
 use Rattle.typed_code.specs.declared.code.Mode.{Mode}
 use Rattle.typed_code.specs.declared.code.Mode.TheVariants as M
 use Rattle.typed_code.specs.declared.code.World.{World as WorldOf}
-use Rattle.typed_code.proofs.Fetch.{fetch, fetch_none, next}
-use Rattle.typed_code.specs.Machine.{Next, Goes, Asks, Over, counts_in, reply_of, limited, in_mode, with_txn, with_line, with_heap, move, charged_if, charged, calc_next, taken, on_taken, made_next, list_next, record_next, print_next, insert_next, asking, counting, saving, paired, act, given, step, drive, steps, Ends}
+use Rattle.typed_code.proofs.Fetch.{fetch, next}
+use Rattle.typed_code.specs.Machine.{Next, Goes, Asks, counts_in, reply_of, in_mode, with_line, with_heap, move, charged_if, charged, calc_next, taken, on_taken, made_next, list_next, record_next, insert_next, asking, counting, saving, paired, act, step, drive, steps, Ends}
 
 keeping : Save.IsKept keeps
 keeping = record { same = λ t s. refl; twice = λ t u s. refl; itself = λ s. refl }
@@ -169,9 +166,11 @@ module _ (schema : Schema) (session request user : ℕ) (image : Image) (r : Tra
     by_test true e h =
         let t = h (record w { meter = with_count w.meter k (count_in w.meter k + n) }) (alike_charged st w k n a) in
         (t.0, ap (λ b. drive t.0 (steps schema session request user image t.0) (charged_if b k n (in_mode (config pc temps st w) m) go) c tape) e ∙ t.1)
-    by_test false e h =
-        (0, ap (λ b. drive 0 (steps schema session request user image 0) (charged_if b k n (in_mode (config pc temps st w) m) go) c tape) e
-        ∙ ap Some (ap (λ x. Trail.Ends x no_writes) (same_reply (O.Limit k (limit_of k + 1)) [] st w a) ∙ h))
+    by_test false e h = (
+      0,
+      ap (λ b. drive 0 (steps schema session request user image 0) (charged_if b k n (in_mode (config pc temps st w) m) go) c tape) e
+          ∙ ap Some (ap (λ x. Trail.Ends x no_writes) (same_reply (O.Limit k (limit_of k + 1)) [] st w a) ∙ h),
+    )
 
   -- the parts of a save or a query
   pub bound_save : {A B C : Type 0} (ok : C → State → Type 0) (res : Save.Res State A) (go : A → State → Save.Res State B) (f : B → State → Res C) →
@@ -296,9 +295,11 @@ module _ (schema : Schema) (session request user : ℕ) (image : Image) (r : Tra
       let c = config pc (pushed vs temps) st w in
       let g : List Value → List Value → Next = λ xs stack. list_next schema session request user xs c (pc + 1) stack in
       let t = charge_at Alloc (32 + 16 * length vs) st pc (pushed vs temps) w M.Running (λ x. made_next (T.List vs) x (pc + 1) temps) c st.world.txn.tape a
-      (with_tape Alloc (32 + 16 * length vs) st _ _ (λ s h same v b. made_at (T.List vs) k temps (pushed vs temps) s pc v c st.world.txn.tape b d (sym same) h) (bound (λ v s. At k (v ∷ temps) s) Stopped (charge Alloc (32 + 16 * length vs) st) (λ u s. make (T.List vs) s) post)) in
-      (t.0, ap (λ m. drive t.0 (steps schema session request user image t.0) (on_taken (taken m (pushed vs temps) []) g) c st.world.txn.tape) (sym e)
-      ∙ ap (λ x. drive t.0 (steps schema session request user image t.0) (on_taken x g) c st.world.txn.tape) (taken_all vs temps) ∙ t.1))
+      (with_tape Alloc (32 + 16 * length vs) st _ _ (λ s h same v b. made_at (T.List vs) k temps (pushed vs temps) s pc v c st.world.txn.tape b d (sym same) h) (bound (λ v s. At k (v ∷ temps) s) Stopped (charge Alloc (32 + 16 * length vs) st) (λ u s. make (T.List vs) s) post)) in (
+        t.0,
+        ap (λ m. drive t.0 (steps schema session request user image t.0) (on_taken (taken m (pushed vs temps) []) g) c st.world.txn.tape) (sym e)
+            ∙ ap (λ x. drive t.0 (steps schema session request user image t.0) (on_taken x g) c st.world.txn.tape) (taken_all vs temps) ∙ t.1,
+      ))
 
   -- a list of expressions with what holds of each
   abbrev pub Exprs : Type 0
@@ -353,11 +354,13 @@ module _ (schema : Schema) (session request user : ℕ) (image : Image) (r : Tra
       let thing : Thing = T.Record (record { object = object; cells = E.with_pairs qs (replicate (E.width (slice_get schema.objects object)) None) }) in
       let g : List ℕ → List Value → List Value → Next = λ fs xs stack. record_next schema session request user object (paired fs xs) c (pc + 1) stack in
       let t = charge_at Alloc (32 + 32 * length qs) st pc (pushed (values qs) temps) w M.Running (λ x. made_next thing x (pc + 1) temps) c st.world.txn.tape a
-      (with_tape Alloc (32 + 32 * length qs) st _ _ (λ s h same v b. made_at thing k temps (pushed (values qs) temps) s pc v c st.world.txn.tape b d (sym same) h) (bound (λ v s. At k (v ∷ temps) s) Stopped (charge Alloc (32 + 32 * length qs) st) (λ u s. make thing s) post)) in
-      (t.0, ap (λ fs. drive t.0 (steps schema session request user image t.0) (on_taken (taken (length fs) (pushed (values qs) temps) []) (g fs)) c st.world.txn.tape) (sym e)
-      ∙ ap (λ n. drive t.0 (steps schema session request user image t.0) (on_taken (taken n (pushed (values qs) temps) []) (g (names qs))) c st.world.txn.tape) (sym (as_many qs))
-      ∙ ap (λ x. drive t.0 (steps schema session request user image t.0) (on_taken x (g (names qs))) c st.world.txn.tape) (taken_all (values qs) temps)
-      ∙ ap (λ ps. drive t.0 (steps schema session request user image t.0) (record_next schema session request user object ps c (pc + 1) temps) c st.world.txn.tape) (paired_again qs) ∙ t.1))
+      (with_tape Alloc (32 + 32 * length qs) st _ _ (λ s h same v b. made_at thing k temps (pushed (values qs) temps) s pc v c st.world.txn.tape b d (sym same) h) (bound (λ v s. At k (v ∷ temps) s) Stopped (charge Alloc (32 + 32 * length qs) st) (λ u s. make thing s) post)) in (
+        t.0,
+        ap (λ fs. drive t.0 (steps schema session request user image t.0) (on_taken (taken (length fs) (pushed (values qs) temps) []) (g fs)) c st.world.txn.tape) (sym e)
+            ∙ ap (λ n. drive t.0 (steps schema session request user image t.0) (on_taken (taken n (pushed (values qs) temps) []) (g (names qs))) c st.world.txn.tape) (sym (as_many qs))
+            ∙ ap (λ x. drive t.0 (steps schema session request user image t.0) (on_taken x (g (names qs))) c st.world.txn.tape) (taken_all (values qs) temps)
+            ∙ ap (λ ps. drive t.0 (steps schema session request user image t.0) (record_next schema session request user object ps c (pc + 1) temps) c st.world.txn.tape) (paired_again qs) ∙ t.1,
+      ))
 
   abbrev pub OfPair : TypedPair → Type 0
   OfPair p = ((E.pair_of schema p).0 ≡ (Code.pair_code p).0) × Puts (E.pair_of schema p).1 (Code.pair_code p).1
@@ -379,8 +382,8 @@ module _ (schema : Schema) (session request user : ℕ) (image : Image) (r : Tra
       (weaken _ _ Stopped (E.all_pairs (map (E.pair_of schema) (pairs ps)) s) (λ qs s1 g n. g (ap (λ f. f ∷ names qs) p.1.0 ∙ ap (λ fs. (Code.pair_code p.0).0 ∷ fs) n))
       (bound (ok_of p ps k temps) Stopped (E.all_pairs (map (E.pair_of schema) (pairs ps)) s) (λ qs s1. Gives (((E.pair_of schema p.0).0, v) ∷ qs) s1) h)))
       (bound (ok_of p ps k temps) Stopped ((E.pair_of schema p.0).1 st) (λ v s. bind (E.all_pairs (map (E.pair_of schema) (pairs ps)) s) (λ qs s1. Gives (((E.pair_of schema p.0).0, v) ∷ qs) s1)) post))) where
-    ok_of : (p : TypedPair) × OfPair p → Pairs → List Instr → List Value → List (ℕ × Value) → State → Type 0
-    ok_of x xs l ts qs s = names qs ≡ Code.fields_of (map Code.pair_code (pairs (x ∷ xs))) → At l (pushed (values qs) ts) s
+        ok_of : (p : TypedPair) × OfPair p → Pairs → List Instr → List Value → List (ℕ × Value) → State → Type 0
+        ok_of x xs l ts qs s = names qs ≡ Code.fields_of (map Code.pair_code (pairs (x ∷ xs))) → At l (pushed (values qs) ts) s
 
   pub new_record_at : (object : ℕ) (ps : Pairs) → Puts (λ st. bind (E.all_pairs (map (E.pair_of schema) (pairs ps)) st) (E.make_record schema object)) (Code.pairs_code (map Code.pair_code (pairs ps)) ++ I.Record object (Code.fields_of (map Code.pair_code (pairs ps))) ∷ [])
   new_record_at object ps k temps st post =
@@ -410,9 +413,9 @@ module _ (schema : Schema) (session request user : ℕ) (image : Image) (r : Tra
       let text : List ℕ = text_of schema st.world.heap v in
       charge_at Alloc (16 + length text) st pc (v ∷ temps) w M.Running (λ x. Goes (with_line (move x (pc + 1) (null ∷ temps)) text)) (config pc (v ∷ temps) st w) st.world.txn.tape a
       (with_tape Alloc (16 + length text) st _ _ (λ s h same x b. printed pc x s st.world.txn.tape k temps text b d (sym same) h) (bound (λ x s. At k (x ∷ temps) s) Stopped (charge Alloc (16 + length text) st) (λ u s. Gives null (S.with_line text s)) post))) where
-    printed : (pc : ℕ) (x : TxnState) (s : State) (tape : List Answer) (l : List Instr) (ts : List Value) (text : List ℕ) → Stands s x → drop (pc + 1) image.body ≡ l → tape ≡ s.world.txn.tape → At l (null ∷ ts) (S.with_line text s) →
-        Runs (with_line (move (config pc (v ∷ temps) s x) (pc + 1) (null ∷ ts)) text) tape
-    printed pc x s tape l ts text b d e h = subst (λ t. Runs (with_line (move (config pc (v ∷ temps) s x) (pc + 1) (null ∷ ts)) text) t) (sym e) (h.by (pc + 1) x b d)
+        printed : (pc : ℕ) (x : TxnState) (s : State) (tape : List Answer) (l : List Instr) (ts : List Value) (text : List ℕ) → Stands s x → drop (pc + 1) image.body ≡ l → tape ≡ s.world.txn.tape → At l (null ∷ ts) (S.with_line text s) →
+            Runs (with_line (move (config pc (v ∷ temps) s x) (pc + 1) (null ∷ ts)) text) tape
+        printed pc x s tape l ts text b d e h = subst (λ t. Runs (with_line (move (config pc (v ∷ temps) s x) (pc + 1) (null ∷ ts)) text) t) (sym e) (h.by (pc + 1) x b d)
 
   -- ---- what statements need beside values
 
@@ -435,49 +438,49 @@ module _ (schema : Schema) (session request user : ℕ) (image : Image) (r : Tra
       first (I.Count q) k temps st (λ pc w a d f.
       charge_at Queries 1 st pc temps w M.Running (λ x. Goes (in_mode x M.Asking)) (config pc temps st w) st.world.txn.tape a
       (with_tape Queries 1 st _ _ (λ s h same v b. asked pc v s st.world.txn.tape b d f (sym same) h) (bound_save ok (Save.charge keeps Queries 1 st) (λ u s1. asks s1) gives post))) where
-    q : Counting
-    q = record { object = object; cond = c; asked = All (local_part c) }
+        q : Counting
+        q = record { object = object; cond = c; asked = All (local_part c) }
 
-    question : Question
-    question = Read object (All (local_part c))
+        question : Question
+        question = Read object (All (local_part c))
 
-    ok : Value → State → Type 0
-    ok v s = At k (v ∷ temps) s
+        ok : Value → State → Type 0
+        ok v s = At k (v ∷ temps) s
 
-    gives : ℕ → State → Res Value
-    gives n s = Gives (Plain (C.Whole (pos n))) s
+        gives : ℕ → State → Res Value
+        gives n s = Gives (Plain (C.Whole (pos n))) s
 
-    tells : Answer → State → Save.Res State ℕ
-    tells b s2 = Save.bind (Save.charge keeps Rows 1 s2) (λ v s3. Save.Gives (count_of s3.world.txn.overlay object c (rows_of_answer b)) s3)
+        tells : Answer → State → Save.Res State ℕ
+        tells b s2 = Save.bind (Save.charge keeps Rows 1 s2) (λ v s3. Save.Gives (count_of s3.world.txn.overlay object c (rows_of_answer b)) s3)
 
-    asks : State → Save.Res State ℕ
-    asks s1 = Save.bind (Save.ask keeps question s1) tells
+        asks : State → Save.Res State ℕ
+        asks s1 = Save.bind (Save.ask keeps question s1) tells
 
-    -- the answer is there
-    told : (pc : ℕ) (v : TxnState) (s : State) (b : Answer) (tape : List Answer) → Stands s v → drop (pc + 1) image.body ≡ k → drop pc image.body ≡ I.Count q ∷ k → tape ≡ s.world.txn.tape → Holds ok Stopped (bind (lifted (tells b s)) gives) →
-        Runs (in_mode (config pc temps s v) (M.Counting b)) tape
-    told pc v s b tape a d f e h =
-        stepped (in_mode (config pc temps s v) (M.Counting b)) tape (counting (Some (I.Count q)) b (in_mode (config pc temps s v) (M.Counting b)))
-        (ap (λ o. counting o b (in_mode (config pc temps s v) (M.Counting b))) (fetch pc image.body (I.Count q) k f))
-        (charge_at Rows 1 s pc temps v (M.Counting b)
-        (λ x. Goes (in_mode (move x (x.top.pc + 1) (Plain (C.Whole (pos (count_of x.world.txn.overlay.now object c (rows_of_answer b)))) ∷ x.top.stack)) M.Running)) (in_mode (config pc temps s v) (M.Counting b)) tape a
-        (with_tape Rows 1 s _ _ (λ s3 g same x y. counted s3 x y (e ∙ sym same) g) (bound_save ok (Save.charge keeps Rows 1 s) (λ u s3. Save.Gives (count_of s3.world.txn.overlay object c (rows_of_answer b)) s3) gives h))) where
-      counted : (s3 : State) (x : TxnState) → Stands s3 x → tape ≡ s3.world.txn.tape → At k (Plain (C.Whole (pos (count_of s3.world.txn.overlay object c (rows_of_answer b)))) ∷ temps) s3 →
-          Runs (config (pc + 1) (Plain (C.Whole (pos (count_of x.overlay.now object c (rows_of_answer b)))) ∷ temps) s3 x) tape
-      counted s3 x y same g =
-          subst (λ t. Runs (config (pc + 1) (Plain (C.Whole (pos (count_of x.overlay.now object c (rows_of_answer b)))) ∷ temps) s3 x) t) (sym same)
-          (subst (λ (j : Layers). Runs (config (pc + 1) (Plain (C.Whole (pos (count_of j.now object c (rows_of_answer b)))) ∷ temps) s3 x) s3.world.txn.tape) (sym y.overlay) (g.by (pc + 1) x y d))
+        -- the answer is there
+        told : (pc : ℕ) (v : TxnState) (s : State) (b : Answer) (tape : List Answer) → Stands s v → drop (pc + 1) image.body ≡ k → drop pc image.body ≡ I.Count q ∷ k → tape ≡ s.world.txn.tape → Holds ok Stopped (bind (lifted (tells b s)) gives) →
+            Runs (in_mode (config pc temps s v) (M.Counting b)) tape
+        told pc v s b tape a d f e h =
+            stepped (in_mode (config pc temps s v) (M.Counting b)) tape (counting (Some (I.Count q)) b (in_mode (config pc temps s v) (M.Counting b)))
+            (ap (λ o. counting o b (in_mode (config pc temps s v) (M.Counting b))) (fetch pc image.body (I.Count q) k f))
+            (charge_at Rows 1 s pc temps v (M.Counting b)
+            (λ x. Goes (in_mode (move x (x.top.pc + 1) (Plain (C.Whole (pos (count_of x.world.txn.overlay.now object c (rows_of_answer b)))) ∷ x.top.stack)) M.Running)) (in_mode (config pc temps s v) (M.Counting b)) tape a
+            (with_tape Rows 1 s _ _ (λ s3 g same x y. counted s3 x y (e ∙ sym same) g) (bound_save ok (Save.charge keeps Rows 1 s) (λ u s3. Save.Gives (count_of s3.world.txn.overlay object c (rows_of_answer b)) s3) gives h))) where
+              counted : (s3 : State) (x : TxnState) → Stands s3 x → tape ≡ s3.world.txn.tape → At k (Plain (C.Whole (pos (count_of s3.world.txn.overlay object c (rows_of_answer b)))) ∷ temps) s3 →
+                  Runs (config (pc + 1) (Plain (C.Whole (pos (count_of x.overlay.now object c (rows_of_answer b)))) ∷ temps) s3 x) tape
+              counted s3 x y same g =
+                  subst (λ t. Runs (config (pc + 1) (Plain (C.Whole (pos (count_of x.overlay.now object c (rows_of_answer b)))) ∷ temps) s3 x) t) (sym same)
+                  (subst (λ (j : Layers). Runs (config (pc + 1) (Plain (C.Whole (pos (count_of j.now object c (rows_of_answer b)))) ∷ temps) s3 x) s3.world.txn.tape) (sym y.overlay) (g.by (pc + 1) x y d))
 
-    asked : (pc : ℕ) (v : TxnState) (s : State) (tape : List Answer) → Stands s v → drop (pc + 1) image.body ≡ k → drop pc image.body ≡ I.Count q ∷ k → tape ≡ s.world.txn.tape → Holds ok Stopped (bind (lifted (asks s)) gives) →
-        Runs (in_mode (config pc temps s v) M.Asking) tape
-    asked pc v s tape a d f e h =
-        subst (λ t. Runs (in_mode (config pc temps s v) M.Asking) t) (sym e)
-        (stepped (in_mode (config pc temps s v) M.Asking) s.world.txn.tape (Asks question) (ap asking (fetch pc image.body (I.Count q) k f))
-        (by s.world.txn.tape (bound_save ok (Save.ask keeps question s) tells gives h))) where
-      by : (t : List Answer) → Holds (λ b s2. Holds ok Stopped (bind (lifted (tells b s2)) gives)) Stopped (lifted (Save.answered keeps question t s)) → Comes (Asks question) (in_mode (config pc temps s v) M.Asking) t
-      by [] g = (0, ap Some g)
-      by (b ∷ more) g =
-          told pc v (record s { world = record (s.world) { txn = record (s.world.txn) { tape = more } } }) b more (record { overlay = a.overlay; minted = a.minted; counts = a.counts; eight = a.eight }) d f refl g
+        asked : (pc : ℕ) (v : TxnState) (s : State) (tape : List Answer) → Stands s v → drop (pc + 1) image.body ≡ k → drop pc image.body ≡ I.Count q ∷ k → tape ≡ s.world.txn.tape → Holds ok Stopped (bind (lifted (asks s)) gives) →
+            Runs (in_mode (config pc temps s v) M.Asking) tape
+        asked pc v s tape a d f e h =
+            subst (λ t. Runs (in_mode (config pc temps s v) M.Asking) t) (sym e)
+            (stepped (in_mode (config pc temps s v) M.Asking) s.world.txn.tape (Asks question) (ap asking (fetch pc image.body (I.Count q) k f))
+            (by s.world.txn.tape (bound_save ok (Save.ask keeps question s) tells gives h))) where
+              by : (t : List Answer) → Holds (λ b s2. Holds ok Stopped (bind (lifted (tells b s2)) gives)) Stopped (lifted (Save.answered keeps question t s)) → Comes (Asks question) (in_mode (config pc temps s v) M.Asking) t
+              by [] g = (0, ap Some g)
+              by (b ∷ more) g =
+                  told pc v (record s { world = record (s.world) { txn = record (s.world.txn) { tape = more } } }) b more (record { overlay = a.overlay; minted = a.minted; counts = a.counts; eight = a.eight }) d f refl g
 
   pub count_if_at : (b : Bool) (object : ℕ) (c : Cond) → Puts (E.count_if schema b object c) (Code.count_if b object c)
   count_if_at true object c k temps st post = count_at object c k temps st post

@@ -1,21 +1,15 @@
 -- Every tree's code does what the tree means.
-use Rattle.std.proofs.Common.{◌≡◌, ℕ, zero, suc, ◌+◌, List, [], ◌∷◌, ◌++◌, drop, map, Option, None, Some, refl, sym, ap, ◌∙◌, subst, append_assoc, append-nil}
-use Rattle.std.specs.Prelude.{slice_index_or}
+use Rattle.std.proofs.Common.{◌≡◌, ℕ, List, [], ◌∷◌, ◌++◌, map, Option, None, Some, refl, sym, ap, ◌∙◌, subst, append_assoc}
 use Rattle.apex_num.specs.declared.cell.Cell.TheVariants as C
 use Rattle.apex_num.specs.declared.kind.LimitKind.TheVariants.{Steps}
-use Rattle.apex_schema.specs.declared.query.Query.{Query}
-use Rattle.apex_schema.specs.declared.query.Query.TheViews.{out-Query}
 use Rattle.apex_schema.specs.declared.schema.Schema.{Schema}
-use Rattle.apex_syntax.specs.declared.stmt.DmlOp.{DmlOp}
 use Rattle.apex_syntax.specs.declared.stmt.DmlOp.TheVariants as Dml
 use Rattle.tenant_trails.specs.Runs as Trail
 use Rattle.txn_heap.specs.declared.thing.Value.{Value}
-use Rattle.txn_heap.specs.declared.thing.Value.TheVariants.{Plain, Object}
-use Rattle.typed_statements.specs.declared.stmt.Saved.{Saved}
 use Rattle.typed_statements.specs.declared.stmt.TypedCatch.{TypedCatch}
 use Rattle.typed_statements.specs.declared.stmt.TypedLocal.{TypedLocal}
 use Rattle.typed_statements.specs.declared.stmt.TypedStmt.{TypedStmt}
-use Rattle.typed_statements.specs.declared.stmt.TypedStmt.TheOpen.{TypedStmt-F, TypedCatch-F}
+use Rattle.typed_statements.specs.declared.stmt.TypedStmt.TheOpen.{TypedStmt-F}
 use Rattle.typed_statements.specs.declared.stmt.TypedStmt.TheViews.{roll-TypedStmt}
 use Rattle.typed_statements.specs.declared.stmt.TypedStmt.TheFolds.{fold-TypedCatch, fold-roll-TypedStmt, ind-TypedStmt, map-TypedStmt}
 use Rattle.typed_trees.specs.declared.expr.CollectionKind.TheVariants as Kind
@@ -30,8 +24,8 @@ use Rattle.typed_trees.specs.declared.expr.TypedPart.{TypedPart}
 use Rattle.typed_trees.specs.declared.expr.TypedBind.TheOpen.{TypedExpr-F, TypedNew-F, TypedOperand-F, TypedPair-F}
 use Rattle.typed_trees.specs.declared.expr.TypedBind.TheViews.{roll-TypedExpr, roll-TypedNew, roll-TypedOperand, roll-TypedPair}
 use Rattle.typed_trees.specs.declared.expr.TypedBind.TheFolds.{fold-TypedBind, fold-TypedPart, fold-TypedItem, fold-roll-TypedExpr, fold-roll-TypedNew, fold-roll-TypedOperand, fold-roll-TypedPair, ind-TypedExpr, map-TypedExpr, map-TypedNew, map-TypedOperand, map-TypedPair}
-use Rattle.typed_meaning.specs.States.{State, Res, Gives, bind, lifted, unbuilt, charge, keeps, set_local}
-use Rattle.typed_meaning.specs.Values.{null, is_cell, negative}
+use Rattle.typed_meaning.specs.States.{State, Gives, bind, unbuilt, charge, set_local}
+use Rattle.typed_meaning.specs.Values.{is_cell, negative}
 use Rattle.typed_meaning.specs.Expressions as E
 use Rattle.typed_meaning.specs.Expressions.{Run, Behind}
 use Rattle.typed_meaning.specs.Statements as D
@@ -186,15 +180,16 @@ module _ (schema : Schema) (session request user : ℕ) (image : Image) (r : Tra
       Simulates.takes_same schema session request user image r (E.operand_of schema (roll-TypedOperand z)) (λ v st. bind (E.value_of schema y.right.0 st) (λ x s. E.apply y.left y.op v x s)) (Code.operand_code (roll-TypedOperand z)) (Code.expr_code y.right.0 ++ Code.op_code y.left y.op)
       (λ v st. ap (λ g. g v st) (fold-roll-TypedOperand Run Run Run Behind Run Behind (ℕ × Run) (E.bind_step schema) (E.expr_step schema) (E.new_step schema) (E.part_step schema) (E.item_step schema) E.operand_step (E.pair_step schema) z)) (fold-roll-TypedOperand Codes Codes Codes Codes Codes Codes (ℕ × Codes) Code.bind_step Code.expr_step Code.new_step Code.part_step Code.item_step Code.operand_step Code.pair_step z)
       (Simulates.operand_at schema session request user image r y.left y.op (E.value_of schema y.right.0) (Code.expr_code y.right.0) y.right.1) where
-    z : TypedOperand-F TypedBind TypedExpr TypedNew TypedPart TypedItem TypedOperand TypedPair
-    z = record { left = y.left; op = y.op; right = y.right.0 }
+        z : TypedOperand-F TypedBind TypedExpr TypedNew TypedPart TypedItem TypedOperand TypedPair
+        z = record { left = y.left; op = y.op; right = y.right.0 }
 
   pair_layer : (y : TypedPair-F SuchBind SuchExpr SuchNew SuchPart SuchItem SuchOperand SuchPair) →
       ((E.pair_of schema (roll-TypedPair (map-TypedPair SuchBind SuchExpr SuchNew SuchPart SuchItem SuchOperand SuchPair TypedBind TypedExpr TypedNew TypedPart TypedItem TypedOperand TypedPair (λ e. e.0) (λ e. e.0) (λ e. e.0) (λ e. e.0) (λ e. e.0) (λ e. e.0) (λ e. e.0) y))).0 ≡ (Code.pair_code (roll-TypedPair (map-TypedPair SuchBind SuchExpr SuchNew SuchPart SuchItem SuchOperand SuchPair TypedBind TypedExpr TypedNew TypedPart TypedItem TypedOperand TypedPair (λ e. e.0) (λ e. e.0) (λ e. e.0) (λ e. e.0) (λ e. e.0) (λ e. e.0) (λ e. e.0) y))).0) ×
       Puts (E.pair_of schema (roll-TypedPair (map-TypedPair SuchBind SuchExpr SuchNew SuchPart SuchItem SuchOperand SuchPair TypedBind TypedExpr TypedNew TypedPart TypedItem TypedOperand TypedPair (λ e. e.0) (λ e. e.0) (λ e. e.0) (λ e. e.0) (λ e. e.0) (λ e. e.0) (λ e. e.0) y))).1 (Code.pair_code (roll-TypedPair (map-TypedPair SuchBind SuchExpr SuchNew SuchPart SuchItem SuchOperand SuchPair TypedBind TypedExpr TypedNew TypedPart TypedItem TypedOperand TypedPair (λ e. e.0) (λ e. e.0) (λ e. e.0) (λ e. e.0) (λ e. e.0) (λ e. e.0) (λ e. e.0) y))).1
-  pair_layer y =
-      (ap (λ p. p.0) runs ∙ sym (ap (λ p. p.0) codes),
-      Simulates.puts_same schema session request user image r _ (E.value_of schema y.value.0) _ (Code.expr_code y.value.0) (λ st. ap (λ p. p.1 st) runs) (ap (λ p. p.1) codes) y.value.1) where
+  pair_layer y = (
+    ap (λ p. p.0) runs ∙ sym (ap (λ p. p.0) codes),
+    Simulates.puts_same schema session request user image r _ (E.value_of schema y.value.0) _ (Code.expr_code y.value.0) (λ st. ap (λ p. p.1 st) runs) (ap (λ p. p.1) codes) y.value.1,
+  ) where
     z : TypedPair-F TypedBind TypedExpr TypedNew TypedPart TypedItem TypedOperand TypedPair
     z = record { field = y.field; value = y.value.0 }
 

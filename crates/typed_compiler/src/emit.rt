@@ -12,8 +12,8 @@ use query_questions::local_part;
 use std::alloc::Global;
 use typed_code::{Counting, Instr};
 use typed_trees::{
-    CollectionKind, Constant, Conversion, Number, TypedBind, TypedExpr, TypedNew, TypedOp, TypedOperand,
-    TypedPair,
+    CollectionKind, Constant, Conversion, Number, TypedBind, TypedExpr, TypedNew, TypedOp,
+    TypedOperand, TypedPair,
 };
 
 /// One instruction more.
@@ -75,7 +75,12 @@ fn emit_op(code: &mut Vec<Instr>, left: Conversion, op: TypedOp) -> Result<(), N
     }
 }
 
-fn emit_count(code: &mut Vec<Instr>, alloc: Global, object: usize, cond: &Cond) -> Result<(), NoMemory>
+fn emit_count(
+    code: &mut Vec<Instr>,
+    alloc: Global,
+    object: usize,
+    cond: &Cond,
+) -> Result<(), NoMemory>
     ensures { OnOk result (code.new.items ≡ code.old.items ++ spec.count_if true object cond.now) }
 {
     let counting = Counting {
@@ -86,17 +91,24 @@ fn emit_count(code: &mut Vec<Instr>, alloc: Global, object: usize, cond: &Cond) 
     put(code, Instr::Count(Boxed::new(alloc, counting)?))
 }
 
-fn emit_query(code: &mut Vec<Instr>, alloc: Global, query: &Query, binds: &[TypedBind]) -> Result<(), NoMemory>
+fn emit_query(
+    code: &mut Vec<Instr>,
+    alloc: Global,
+    query: &Query,
+    binds: &[TypedBind],
+) -> Result<(), NoMemory>
     ensures { OnOk result (code.new.items ≡ code.old.items ++ spec.query_with query.now binds.now) }
 {
-    let is_plain = query.counted && !query.locked && query.limit.is_none() && query.offset.is_none();
+    let is_plain = query.counted
+        && !query.locked
+        && query.limit.is_none()
+        && query.offset.is_none();
     if is_plain && binds.is_empty() {
         emit_count(code, alloc, query.object, &query.cond)
     } else {
         put(code, Instr::Unbuilt)
     }
 }
-
 
 /// The instructions of an expression.
 #[cycle(emit)]
@@ -143,7 +155,11 @@ pub fn emit_expr(code: &mut Vec<Instr>, alloc: Global, expr: &TypedExpr) -> Resu
 }
 
 #[cycle(emit)]
-fn emit_operand(code: &mut Vec<Instr>, alloc: Global, operand: &TypedOperand) -> Result<(), NoMemory>
+fn emit_operand(
+    code: &mut Vec<Instr>,
+    alloc: Global,
+    operand: &TypedOperand,
+) -> Result<(), NoMemory>
     ensures { OnOk result (code.new.items ≡ code.old.items ++ spec.operand_code operand.now) }
 {
     emit_expr(code, alloc, &operand.right)?;
@@ -151,7 +167,11 @@ fn emit_operand(code: &mut Vec<Instr>, alloc: Global, operand: &TypedOperand) ->
 }
 
 #[cycle(emit)]
-fn emit_operands(code: &mut Vec<Instr>, alloc: Global, operands: &[TypedOperand]) -> Result<(), NoMemory>
+fn emit_operands(
+    code: &mut Vec<Instr>,
+    alloc: Global,
+    operands: &[TypedOperand],
+) -> Result<(), NoMemory>
     ensures { OnOk result (code.new.items ≡ code.old.items ++ spec.joined (map spec.operand_code operands.now)) }
 {
     for operand in operands {
@@ -210,7 +230,10 @@ fn emit_new(code: &mut Vec<Instr>, alloc: Global, new: &TypedNew) -> Result<(), 
     match new {
         TypedNew::Record(object, pairs) => {
             emit_pairs(code, alloc, pairs.as_slice())?;
-            put(code, Instr::Record(*object, fields_of(alloc, pairs.as_slice())?))
+            put(
+                code,
+                Instr::Record(*object, fields_of(alloc, pairs.as_slice())?),
+            )
         }
         TypedNew::Collection(CollectionKind::List, items) => {
             emit_exprs(code, alloc, items.as_slice())?;

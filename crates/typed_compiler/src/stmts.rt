@@ -13,7 +13,11 @@ use typed_code::{Image, Instr};
 use typed_statements::{TypedLocal, TypedStmt};
 use typed_trees::TypedExpr;
 
-fn emit_value(code: &mut Vec<Instr>, alloc: Global, value: &Option<TypedExpr>) -> Result<(), NoMemory>
+fn emit_value(
+    code: &mut Vec<Instr>,
+    alloc: Global,
+    value: &Option<TypedExpr>,
+) -> Result<(), NoMemory>
     ensures { OnOk result (code.new.items ≡ code.old.items ++ spec.local_code value.now) }
 {
     match value {
@@ -40,7 +44,12 @@ fn emit_declare(code: &mut Vec<Instr>, alloc: Global, locals: &[TypedLocal]) -> 
 }
 
 // A step, a value and what is done with it.
-fn emit_with(code: &mut Vec<Instr>, alloc: Global, expr: &TypedExpr, then: Instr) -> Result<(), NoMemory>
+fn emit_with(
+    code: &mut Vec<Instr>,
+    alloc: Global,
+    expr: &TypedExpr,
+    then: Instr,
+) -> Result<(), NoMemory>
     ensures { OnOk result (code.new.items ≡ code.old.items ++ Instr.Step ∷ (spec.expr_code expr.now ++ then ∷ [])) }
 {
     put(code, Instr::Step)?;

@@ -1,4 +1,4 @@
-use Rattle.std.proofs.Common.{◌≡◌, ap, sym, ◌∙◌, ◌++◌, ◌∷◌}
+use Rattle.std.proofs.Common.{ap, sym, ◌∙◌, ◌++◌, ◌∷◌}
 use Rattle.txn_overlay.specs.declared.overlay.Change.{Change}
 use Rattle.txn_overlay.specs.Changes.{plain, shown}
 use Rattle.txn_overlay.proofs.Copies.{copied_more, row_more}
