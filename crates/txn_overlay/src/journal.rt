@@ -53,7 +53,7 @@ impl Journal {
         self.overlay.put(row)
     }
 
-    /// A statement begins. Want of memory leaves all as it was.
+    /// A statement begins, which costs a copy of the changes so far. Want of memory leaves all as it was.
     pub fn save(&mut self) -> Result<(), NoMemory>
         ensures ok { OnOk result (self.new ≡ record { now = self.old.now; saved = self.old.now ∷ self.old.saved }) }
         ensures err { OnErr result (self.new ≡ self.old) }

@@ -8,7 +8,7 @@ use apex_num::{Cell, Dec, NoMemory, Text};
 use std::alloc::Global;
 use typed_trees::Constant;
 
-/// The cell of a constant; `None` exactly where there is no such cell, which the checker never makes.
+/// The cell of a constant; `None` exactly where there is no such cell.
 pub fn cell_of(alloc: Global, constant: &Constant) -> Result<Option<Cell>, NoMemory>
     ensures { IfOk result (λ cell. cell ≡ cond (is_cell constant.now) (Some (cell_of constant.now)) None) }
 {

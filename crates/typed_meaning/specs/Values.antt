@@ -30,7 +30,7 @@ cell_of (K.Whole n) = C.Whole n
 cell_of (K.Decimal n) = C.Num (pos n)
 cell_of (K.Text t) = C.Text t
 
--- whether there is such a cell: texts are UTF-8, and Decimals have 19 digits at most; the checker makes no other constants
+-- whether there is such a cell: texts are UTF-8, and Decimals have 19 digits at most
 abbrev pub is_cell : Constant → Bool
 is_cell (K.Decimal n) = nat_lt n (10 ^ 19)
 is_cell (K.Text t) = is_utf8 t
