@@ -4,7 +4,7 @@ ghost use Rattle.std.specs.Prelude.{◌≡◌, ◌<◌, suc, IfOk};
 ghost use Rattle.record_ids.specs.Ids.{most};
 ghost use Rattle.save_meaning.specs.Drafts as spec;
 ghost use Rattle.save_meaning.specs.Inserts.{loaded};
-ghost use Rattle.record_drafts.specs.Known.{known_at, cell_or};
+ghost use Rattle.record_drafts.specs.Known.{known_at};
 
 use apex_list::Items;
 use apex_num::{Cell, Id, NoMemory, read_id};
@@ -42,17 +42,17 @@ fn known_cell(known: &[Option<Cell>], field: usize) -> Result<Option<Cell>, NoMe
 }
 
 // The cell of a field: what is known, or the user as the owner.
-fn new_cell(user: usize, field: usize, kind: &FieldKind, known: Option<Cell>) -> Cell
+fn new_cell(user: usize, number: usize, field: &Field, known: Option<Cell>) -> Cell
     requires { suc user < most }
-    ensures { result ≡ cell_or user field kind.now known }
+    ensures { result ≡ spec.new_cell user number field.now known }
 {
     match known {
         Some(cell) => cell,
         None => {
-            if field == 1 {
+            if number == 1 {
                 Cell::Id(user_id(user))
             } else {
-                blank_of(kind)
+                blank_of(&field.kind)
             }
         }
     }
@@ -70,7 +70,7 @@ fn new_cells(
     let mut cells = Items::new(alloc);
     for i in 0..fields.len() {
         let known = known_cell(known, i)?;
-        cells.push(new_cell(user, i, &fields[i].kind, known))?;
+        cells.push(new_cell(user, i, &fields[i], known))?;
     }
     Ok(cells)
 }
