@@ -91,17 +91,17 @@ fn draft_of(
     user: usize,
     object: usize,
     fields: &[Field],
-    record: &SaveRow,
+    row: &SaveRow,
 ) -> Result<Draft, NoMemory>
     requires { suc user < most }
-    ensures { IfOk result (λ draft. draft ≡ spec.new_draft user object fields.now record.now.id record.now.cells) }
+    ensures { IfOk result (λ draft. draft ≡ spec.new_draft user object fields.now row.now.id row.now.cells) }
 {
-    match record.id {
+    match row.id {
         Some(_) => Ok(Draft::Wrong(RecordError::IdInInsert)),
         None => Ok(Draft::Going(Row {
             object,
             id: no_id(),
-            cells: new_cells(alloc, user, fields, record.cells.as_slice())?,
+            cells: new_cells(alloc, user, fields, row.cells.as_slice())?,
         })),
     }
 }
