@@ -2,11 +2,11 @@
 use Rattle.std.specs.Prelude.{◌≡◌, ℕ, ◌⊎◌, List, [], ◌∷◌, ◌++◌, codes, Option}
 use Rattle.apex_io.specs.Outside.{Adds}
 use Rattle.apex_io.specs.Whole.{WriteCause}
-use Rattle.apex_schema.specs.declared.reply.Event.{Event}
 use Rattle.stack_code.specs.declared.code.Image.{Image}
 use Rattle.command_answers.specs.declared.words.Row.{Row}
 use Rattle.command_answers.specs.Answers.{Outside}
 use Rattle.block_exec.specs.Exec.{Execs}
+use Rattle.bundle_turns.specs.declared.turns.Book.{Book}
 use Rattle.bundle_turns.specs.Turns.{Turns}
 
 abbrev pub usage_line : List ℕ
@@ -17,8 +17,8 @@ abbrev pub IsUsage : ℕ → Outside → Type 0
 IsUsage status s =
     ((status ≡ 1) × Adds s.held usage_line s.held_later) ⊎ ((status ≡ 4) × WriteCause usage_line s.held s.held_later s.write_faults s.write_faults_later)
 
--- what a status says, with the image and the trails that are kept
-abbrev pub Answers : Row → Option Image → List (List Event) → ℕ → Outside → Type 0
-Answers Row.Exec image trails status s = Execs image status s
-Answers (Row.Turns listed) image trails status s = Turns listed trails status s
-Answers Row.Usage image trails status s = IsUsage status s × (s.later ≡ s.left)
+-- what a status says, with the image and the book that are kept
+abbrev pub Answers : Row → Option Image → Book → ℕ → Outside → Type 0
+Answers Row.Exec image book status s = Execs image status s
+Answers (Row.Turns listed) image book status s = Turns listed book status s
+Answers Row.Usage image book status s = IsUsage status s × (s.later ≡ s.left)

@@ -17,7 +17,7 @@ use std::alloc::Global;
 pub struct Kept {
     /// The compiled code of `exec`.
     pub image: Option<Image>,
-    /// The trails of `turns`.
+    /// The compiled code and the trails of `turns`.
     pub book: Book,
 }
 
@@ -34,8 +34,9 @@ pub fn top<S: Source, K: Sink>(
     kept: &mut Kept,
 ) -> u8
     requires image { kept.old.image ≡ None }
+    requires images { kept.old.book.images ≡ [] }
     requires trails { kept.old.book.trails ≡ [] }
-    ensures answers { Answers (row_of (map string_bytes words.now)) kept.new.image kept.new.book.trails result (record { left = S.left source.old; later = S.left source.new; read_faults = S.faults source.old; read_faults_later = S.faults source.new; held = K.held sink.old; held_later = K.held sink.new; write_faults = K.faults sink.old; write_faults_later = K.faults sink.new }) }
+    ensures answers { Answers (row_of (map string_bytes words.now)) kept.new.image kept.new.book result (record { left = S.left source.old; later = S.left source.new; read_faults = S.faults source.old; read_faults_later = S.faults source.new; held = K.held sink.old; held_later = K.held sink.new; write_faults = K.faults sink.old; write_faults_later = K.faults sink.new }) }
     ensures read_counted { S.faults source.old ≤ S.faults source.new }
     ensures write_counted { K.faults sink.old ≤ K.faults sink.new }
     ensures asked { S.calls source.new ≤ S.calls source.old + most_bytes + 2 }

@@ -1,5 +1,5 @@
-//! `apexd`: a compiler and runtime for Apex. So far it runs one small block, and tells of a bundle what isn't deployed and
-//! which requests are refused.
+//! `apexd`: a compiler and runtime for Apex. So far it runs one small block, and the requests of a bundle's only session where
+//! its tenant is of a form that is built.
 #![tactic(auto)]
 
 mod command;
@@ -39,6 +39,7 @@ fn main(rt: HostRuntime) -> ExitCode {
     let mut kept = Kept {
         image: None,
         book: Book {
+            images: Items::new(rt.alloc()),
             trails: Items::new(rt.alloc()),
         },
     };

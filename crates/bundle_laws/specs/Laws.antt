@@ -1,15 +1,20 @@
 -- What is to be shown of bundles.
 use Rattle.std.specs.Prelude.{ℕ, ◌≤◌, List, length, All, Ok}
 use Rattle.bundle_read.specs.declared.entries.Bundle.{Bundle}
+use Rattle.bundle_read.specs.declared.entries.SessionEntry.{SessionEntry}
 use Rattle.bundle_read.specs.declared.entries.TenantPlan.{TenantPlan}
 use Rattle.bundle_read.specs.Bundles.{IsRead}
 
--- no tenant has more users than there may be
-abbrev pub HasFewUsers : TenantPlan → Type 0
-HasFewUsers t = length t.schema.users ≤ 1000000
+abbrev pub HasFewRequests : SessionEntry → Type 0
+HasFewRequests s = length s.requests ≤ 10000
 
-abbrev pub FewUsers : List TenantPlan → Type 0
-FewUsers ts = All HasFewUsers ts
+-- no more users than there may be, and no session with more requests than there may be
+pub record IsBounded (t : TenantPlan) : Type 0 where
+  pub users : length t.schema.users ≤ 1000000
+  pub requests : All HasFewRequests t.sessions
 
-abbrev pub BundlesHaveFewUsers : Type 0
-BundlesHaveFewUsers = (bytes : List ℕ) (bundle : Bundle) → IsRead bytes (Ok bundle) → FewUsers bundle.tenants
+abbrev pub AreBounded : List TenantPlan → Type 0
+AreBounded ts = All IsBounded ts
+
+abbrev pub BundlesAreBounded : Type 0
+BundlesAreBounded = (bytes : List ℕ) (bundle : Bundle) → IsRead bytes (Ok bundle) → AreBounded bundle.tenants

@@ -1,22 +1,21 @@
 -- What the answers of `turns` say (docs/promises.md).
-use Rattle.std.specs.Prelude.{◌≡◌, ◌⊎◌, ◌&&◌, ◌≤◌, ℕ, eqb, Bool, true, false, List, [], ◌∷◌, ◌++◌, codes, length, map, Option, None, Some, Ok, Err}
+use Rattle.std.specs.Prelude.{◌≡◌, ◌⊎◌, ◌&&◌, ℕ, eqb, Bool, true, false, List, [], ◌∷◌, ◌++◌, codes, length, Option, None, Some, Ok, Err}
 use Rattle.apex_schema.specs.declared.reply.Event.{Event}
 use Rattle.apex_schema.specs.declared.reply.Fault.{Fault}
 use Rattle.apex_schema.specs.declared.reply.FaultWord.TheVariants.{NotYet}
-use Rattle.apex_schema.specs.declared.request.Request.{Request}
 use Rattle.bundle_read.specs.declared.entries.Bundle.{Bundle}
 use Rattle.bundle_read.specs.declared.entries.TenantPlan.{TenantPlan}
 use Rattle.bundle_read.specs.Bundles.{IsRead}
-use Rattle.refused_requests.specs.Refusals.{tenant_of, trail_of}
 use Rattle.reply_text.specs.Lines.{escaped, word_text}
 use Rattle.reply_text.specs.Reports.{report}
 use Rattle.tenant_front.specs.declared.part.TenantPart.{TenantPart}
 use Rattle.tenant_front.specs.Parts.{IsPart, IsFrontFault}
-use Rattle.tenant_requests.specs.declared.closed.Session.{Session}
-use Rattle.tenant_trails.specs.Legal.{Closed}
+use Rattle.tenant_runs.specs.Tenants.{IsRan}
+use Rattle.typed_code.specs.declared.code.Image.{Image}
 use Rattle.command_answers.specs.declared.answer.Made.{Made}
 use Rattle.command_answers.specs.declared.answer.Made.TheVariants.{Text, Line}
 use Rattle.command_answers.specs.Answers.{Answered, Outside}
+use Rattle.bundle_turns.specs.declared.turns.Book.{Book}
 use Rattle.bundle_turns.specs.Built.{is_built}
 
 -- ---- what a tenant comes to
@@ -28,54 +27,39 @@ not_yet_at place = record { place = place; word = NotYet }
 abbrev pub part_not_yet : Fault
 part_not_yet = not_yet_at (codes "part")
 
-abbrev pub requests_of : List Session → List (List Request)
-requests_of sessions = map (λ (s : Session). s.requests) sessions
+-- a tenant is deployed, its blocks are compiled, and it has its trail where it is alone in its bundle and built; otherwise it
+-- has a fault, no code and no events. What isn't built is told only where nothing else is wrong
+abbrev pub ComesBy : Bool → TenantPlan → Option Fault → List (Option Image) → List Event → Type 0
+ComesBy true plan None images trail = (part : TenantPart) × IsPart plan part × IsRan part images trail
+ComesBy false plan None images trail = ⊥
+ComesBy built plan (Some f) images trail = (images ≡ []) × (trail ≡ []) × (IsFrontFault plan f ⊎ ((built ≡ false) × ((part : TenantPart) × IsPart plan part) × (f ≡ part_not_yet)))
 
--- one session at most, of one request at most
-abbrev pub AreFew : List Session → Type 0
-AreFew [] = Unit {0}
-AreFew (s ∷ []) = length s.requests ≤ 1
-AreFew (s ∷ t ∷ ss) = ⊥
+abbrev pub Comes : Bool → TenantPlan → Option Fault → List (Option Image) → List Event → Type 0
+Comes alone plan fault images trail = ComesBy (alone && is_built plan) plan fault images trail
 
--- the tenant's trail: it is legal, and each request of it is closed
-pub record Ran (part : TenantPart) (trail : List Event) : Type 0 where
-  pub trail_is : trail ≡ trail_of (requests_of part.sessions)
-  pub closed : Closed (tenant_of part.seed (requests_of part.sessions)) trail
-
--- a tenant is deployed and has its trail where it is alone in its bundle and built; otherwise it has a fault and no events.
--- What isn't built is told only where nothing else is wrong
-abbrev pub ComesBy : Bool → TenantPlan → Option Fault → List Event → Type 0
-ComesBy true plan None trail = (part : TenantPart) × IsPart plan part × Ran part trail
-ComesBy false plan None trail = ⊥
-ComesBy built plan (Some f) trail = (trail ≡ []) × (IsFrontFault plan f ⊎ ((built ≡ false) × ((part : TenantPart) × IsPart plan part) × (f ≡ part_not_yet)))
-
-abbrev pub Comes : Bool → TenantPlan → Option Fault → List Event → Type 0
-Comes alone plan fault trail = ComesBy (alone && is_built plan) plan fault trail
-
-abbrev pub AllCome : Bool → List TenantPlan → List (Option Fault) → List (List Event) → Type 0
-AllCome alone [] faults trails = (faults ≡ []) × (trails ≡ [])
-AllCome alone (p ∷ ps) (f ∷ fs) (t ∷ ts) = Comes alone p f t × AllCome alone ps fs ts
-AllCome alone (p ∷ ps) [] ts = ⊥
-AllCome alone (p ∷ ps) (f ∷ fs) [] = ⊥
+abbrev pub AllCome : Bool → List TenantPlan → List (Option Fault) → List (List (Option Image)) → List (List Event) → Type 0
+AllCome alone [] faults images trails = (faults ≡ []) × (images ≡ []) × (trails ≡ [])
+AllCome alone (p ∷ ps) (f ∷ fs) (i ∷ is) (t ∷ ts) = Comes alone p f i t × AllCome alone ps fs is ts
+AllCome alone (p ∷ ps) _ _ _ = ⊥
 
 -- ---- what a bundle comes to
 
--- the trails in the book are those of its tenants, and the text tells them
-pub record IsRun (bundle : Bundle) (trails : List (List Event)) (text : List ℕ) : Type 0 where
+-- the images and the trails in the book are those of its tenants, and the text tells the trails
+pub record IsRun (bundle : Bundle) (book : Book) (text : List ℕ) : Type 0 where
   pub faults : List (Option Fault)
-  pub all : AllCome (eqb (length bundle.tenants) 1) bundle.tenants faults trails
-  pub prints : text ≡ report bundle.tenants faults trails
+  pub all : AllCome (eqb (length bundle.tenants) 1) bundle.tenants faults book.images book.trails
+  pub prints : text ≡ report bundle.tenants faults book.trails
 
-abbrev pub IsRunText : Bundle → List (List Event) → Made → Type 0
-IsRunText bundle trails (Text text) = IsRun bundle trails text
-IsRunText bundle trails (Line line) = ⊥
+abbrev pub IsRunText : Bundle → Book → Made → Type 0
+IsRunText bundle book (Text text) = IsRun bundle book text
+IsRunText bundle book (Line line) = ⊥
 
 -- the bytes are a bundle; and a list of turns isn't built, so there is none
-pub record Runs (listed : Bool) (trails : List (List Event)) (bytes text : List ℕ) : Type 0 where
+pub record Runs (listed : Bool) (book : Book) (bytes text : List ℕ) : Type 0 where
   pub unlisted : listed ≡ false
   pub bundle : Bundle
   pub is_bundle : IsRead bytes (Ok bundle)
-  pub run : IsRun bundle trails text
+  pub run : IsRun bundle book text
 
 abbrev pub bad_line : Fault → List ℕ
 bad_line f = codes "bad bundle at " ++ escaped f.place ++ codes ": " ++ word_text f.word ++ 10 ∷ []
@@ -102,6 +86,6 @@ pub record IsInput (listed : Bool) (bytes : List ℕ) : Type 0 where
   pub bundle : Bundle
   pub is : IsRead bytes (Ok bundle)
 
--- a status of `turns`, with a list or without, and the trails after it
-abbrev pub Turns : Bool → List (List Event) → ℕ → Outside → Type 0
-Turns listed trails status s = Answered (Runs listed trails) (Refuses listed) 3 (IsInput listed) status s
+-- a status of `turns`, with a list or without, and the book after it
+abbrev pub Turns : Bool → Book → ℕ → Outside → Type 0
+Turns listed book status s = Answered (Runs listed book) (Refuses listed) 3 (IsInput listed) status s

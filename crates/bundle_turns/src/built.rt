@@ -7,84 +7,65 @@ ghost use Rattle.bundle_turns.specs.Built as spec;
 use apex_schema::{Access, FieldPlan, ObjectPlan, PlanKind, SchemaPlan};
 use bundle_read::{RequestEntry, SessionEntry, TenantPlan, WorkEntry};
 
-// The moment of a request that names none: 2000-01-01T00:00:00Z.
-const NO_MOMENT: i64 = 946_684_800;
-
-fn is_text_field(field: &FieldPlan) -> bool
-    ensures { result ≡ spec.is_text_field field.now }
+fn is_plain_field(field: &FieldPlan) -> bool
+    ensures { result ≡ spec.is_plain_field field.now }
 {
     match field.kind {
-        PlanKind::Text => true,
-        PlanKind::Number
+        PlanKind::Text
+        | PlanKind::Number
         | PlanKind::Checkbox
         | PlanKind::Date
-        | PlanKind::Datetime
-        | PlanKind::Lookup
-        | PlanKind::MasterDetail
-        | PlanKind::Rollup => false,
+        | PlanKind::Datetime => true,
+        PlanKind::Lookup | PlanKind::MasterDetail | PlanKind::Rollup => false,
     }
 }
 
-fn are_text_fields(fields: &[FieldPlan]) -> bool
-    ensures { result ≡ list_all spec.is_text_field fields.now }
+fn are_plain_fields(fields: &[FieldPlan]) -> bool
+    ensures { result ≡ list_all spec.is_plain_field fields.now }
 {
-    fields.iter().all(|field| is_text_field(field))
+    fields.iter().all(|field| is_plain_field(field))
 }
 
-fn is_edit(default: Access) -> bool
-    ensures { result ≡ spec.is_edit default }
+fn is_seen(default: Access) -> bool
+    ensures { result ≡ spec.is_seen default }
 {
     match default {
-        Access::Edit => true,
-        Access::Nothing | Access::Read => false,
+        Access::Read | Access::Edit => true,
+        Access::Nothing => false,
     }
 }
 
 fn is_plain_object(object: &ObjectPlan) -> bool
     ensures { result ≡ spec.is_plain_object object.now }
 {
-    is_edit(object.default) && object.rules.is_empty() && are_text_fields(object.fields.as_slice())
-}
-
-fn are_plain_objects(objects: &[ObjectPlan]) -> bool
-    ensures { result ≡ list_all spec.is_plain_object objects.now }
-{
-    objects.iter().all(|object| is_plain_object(object))
+    is_seen(object.default) && are_plain_fields(object.fields.as_slice())
 }
 
 fn is_plain_schema(plan: &SchemaPlan) -> bool
     ensures { result ≡ spec.is_plain_schema plan.now }
 {
-    plan.roles.is_empty() && plan.users.len() == 1 && are_plain_objects(plan.objects.as_slice())
-}
-
-fn is_block(work: &WorkEntry) -> bool
-    ensures { result ≡ spec.is_block work.now }
-{
-    match work {
-        WorkEntry::Apex(_) => true,
-        WorkEntry::Save(_) => false,
-    }
+    let objects = plan.objects.as_slice();
+    objects.iter().all(|object| is_plain_object(object))
 }
 
 fn is_plain_request(request: &RequestEntry) -> bool
     ensures { result ≡ spec.is_plain_request request.entry.now }
 {
-    is_block(&request.work) && request.now == NO_MOMENT
+    match request.work {
+        WorkEntry::Apex(_) => true,
+        WorkEntry::Save(_) => false,
+    }
 }
 
 fn is_plain_session(session: &SessionEntry) -> bool
     ensures { result ≡ spec.is_plain_session session.now }
 {
-    match session.requests.as_slice() {
-        [] => true,
-        [request] => is_plain_request(request),
-        _ => false,
-    }
+    let requests = session.requests.as_slice();
+    requests.iter().all(|request| is_plain_request(request))
 }
 
-fn are_plain_sessions(sessions: &[SessionEntry]) -> bool
-    ensures { result ≡ spec.are_few spec.is_plain_session sessions.now }
+fn are_few(sessions: &[SessionEntry]) -> bool
+    ensures { result ≡ spec.are_few sessions.now }
 {
     match sessions {
         [] => true,
@@ -93,14 +74,10 @@ fn are_plain_sessions(sessions: &[SessionEntry]) -> bool
     }
 }
 
-/// Whether a tenant is one that is run so far: one user, no roles, objects of Text fields that everybody may edit and that
-/// have no rules; no units and no seed; at most one session, of at most one request, which is a block at the moment that a
-/// request has which names none.
+/// Whether a tenant is one that is run so far: objects whose rows everybody may see, with fields that lead to no other row
+/// and aren't rolled up; no units; and at most one session, whose requests are blocks.
 pub fn is_built(plan: &TenantPlan) -> bool
     ensures { result ≡ spec.is_built plan.now }
 {
-    is_plain_schema(&plan.schema)
-        && plan.units.is_empty()
-        && plan.seed.is_empty()
-        && are_plain_sessions(plan.sessions.as_slice())
+    is_plain_schema(&plan.schema) && plan.units.is_empty() && are_few(plan.sessions.as_slice())
 }

@@ -1,9 +1,8 @@
 // The sessions of a bundle, in order.
 
 ghost use Rattle.std.specs.Prelude.{◌≡◌, ◌≤◌, ◌+◌, [], eqb, length, true, IfOk, Some};
-ghost use Rattle.refused_requests.specs.Refusals.{trail_of as the_trail_of};
 ghost use Rattle.tenant_front.specs.Parts.{IsPart};
-ghost use Rattle.bundle_laws.specs.Laws.{FewUsers};
+ghost use Rattle.bundle_laws.specs.Laws.{AreBounded, IsBounded};
 ghost use Rattle.command_answers.specs.Answers.{Cause, Makes, most_bytes};
 ghost use Rattle.bundle_turns.specs.Built.{is_built as is_built_plan};
 ghost use Rattle.bundle_turns.specs.Turns as spec;
@@ -16,25 +15,28 @@ use apex_schema::{Event, Fault, FaultWord};
 use bundle_laws::laws_of_bundles;
 use bundle_read::{Bundle, BundleFault, TenantPlan, read_bundle};
 use command_answers::{Answer, Made, input, output, status};
-use refused_requests::{laws_of_refusals, refused_trail};
 use reply_text::{put_escaped, report, word};
 use std::alloc::{AllocError, Global};
 use tenant_front::{FrontFault, TenantPart, front};
-use tenant_requests::Session;
+use tenant_runs::{Ran, laws_of_parts, run_tenant};
+use typed_code::Image;
 
 // The status where the bytes are no bundle.
 const BAD_BUNDLE: u8 = 3;
 
-/// The trails of a run, one for each tenant of its bundle.
+/// What a run leaves: of each tenant of its bundle the compiled code and the trail.
 #[derive(Debug, Drop)]
 pub struct Book {
+    /// The images of each tenant's blocks, by the blocks' numbers from 0; none where a block's code has a fault.
+    pub images: Items<Items<Option<Image>>>,
     pub trails: Items<Items<Event>>,
 }
 
-// What a tenant comes to: its fault or none, and its trail.
+// What a tenant comes to: its fault or none, its images and its trail.
 #[derive(Debug, Drop)]
 struct Came {
     fault: Option<Fault>,
+    images: Items<Option<Image>>,
     trail: Items<Event>,
 }
 
@@ -42,6 +44,7 @@ struct Came {
 #[derive(Debug, Drop)]
 struct AllCame {
     faults: Items<Option<Fault>>,
+    images: Items<Items<Option<Image>>>,
     trails: Items<Items<Event>>,
 }
 
@@ -54,46 +57,42 @@ fn not_yet(alloc: Global, place: &str) -> Result<Fault, NoMemory>
     })
 }
 
-// The trail of a tenant with one session at most.
-fn trail_of(alloc: Global, sessions: &[Session]) -> Result<Items<Event>, NoMemory>
-    requires { spec.AreFew sessions.now }
-    ensures { IfOk result (λ trail. trail ≡ the_trail_of (spec.requests_of sessions.now)) }
-{
-    match sessions.first() {
-        None => Ok(Items::new(alloc)),
-        Some(session) => refused_trail(alloc, session.requests.as_slice()),
-    }
-}
-
 // What a tenant that is deployed comes to.
-fn deployed(alloc: Global, plan: &TenantPlan, part: &TenantPart) -> Result<Came, NoMemory>
-    requires part { IsPart plan.now part.now }
+fn deployed(alloc: Global, plan: &TenantPlan, part: TenantPart) -> Result<Came, NoMemory>
+    requires part { IsPart plan.now part }
+    requires bounds { IsBounded plan.now }
     requires built { is_built_plan plan.now ≡ true }
-    ensures { IfOk result (λ came. spec.ComesBy true plan.now came.fault came.trail) }
+    ensures { IfOk result (λ came. spec.ComesBy true plan.now came.fault came.images came.trail) }
 {
-    laws_of_refusals();
-    let trail = trail_of(alloc, part.sessions.as_slice())?;
-    Ok(Came { fault: None, trail })
+    laws_of_parts();
+    let Ran { images, trail } = run_tenant(alloc, part)?;
+    Ok(Came {
+        fault: None,
+        images,
+        trail,
+    })
 }
 
 fn undeployed(alloc: Global, fault: Fault) -> Came
     ensures fault { result.fault ≡ Some fault }
+    ensures images { result.images ≡ [] }
     ensures trail { result.trail ≡ [] }
 {
     Came {
         fault: Some(fault),
+        images: Items::new(alloc),
         trail: Items::new(alloc),
     }
 }
 
 fn came_of(alloc: Global, alone: bool, plan: &TenantPlan) -> Result<Came, NoMemory>
-    requires { length plan.now.schema.users ≤ 1000000 }
-    ensures { IfOk result (λ came. spec.Comes alone plan.now came.fault came.trail) }
+    requires bounds { IsBounded plan.now }
+    ensures { IfOk result (λ came. spec.Comes alone plan.now came.fault came.images came.trail) }
 {
     match front(alloc, plan) {
         Ok(part) => {
             if alone && is_built(plan) {
-                deployed(alloc, plan, &part)
+                deployed(alloc, plan, part)
             } else {
                 Ok(undeployed(alloc, not_yet(alloc, "part")?))
             }
@@ -104,27 +103,42 @@ fn came_of(alloc: Global, alone: bool, plan: &TenantPlan) -> Result<Came, NoMemo
 }
 
 fn all_came(alloc: Global, tenants: &[TenantPlan]) -> Result<AllCame, NoMemory>
-    requires { FewUsers tenants.now }
-    ensures { IfOk result (λ all. spec.AllCome (eqb (length tenants.now) 1) tenants.now all.faults all.trails) }
+    requires { AreBounded tenants.now }
+    ensures { IfOk result (λ all. spec.AllCome (eqb (length tenants.now) 1) tenants.now all.faults all.images all.trails) }
 {
     let alone = tenants.len() == 1;
     let mut faults = Items::new(alloc);
+    let mut all_images = Items::new(alloc);
     let mut trails = Items::new(alloc);
     'tenants: for t in 0..tenants.len() {
-        let Came { fault, trail } = came_of(alloc, alone, &tenants[t])?;
+        let Came {
+            fault,
+            images,
+            trail,
+        } = came_of(alloc, alone, &tenants[t])?;
         faults.push(fault)?;
+        all_images.push(images)?;
         trails.push(trail)?;
     }
-    Ok(AllCame { faults, trails })
+    Ok(AllCame {
+        faults,
+        images: all_images,
+        trails,
+    })
 }
 
 // The text of a run, which the book keeps.
 fn ran(alloc: Global, bundle: &Bundle, book: &mut Book) -> Result<Made, NoMemory>
-    requires { FewUsers bundle.now.tenants }
-    ensures { IfOk result (spec.IsRunText bundle.now book.new.trails) }
+    requires { AreBounded bundle.now.tenants }
+    ensures { IfOk result (spec.IsRunText bundle.now book.new) }
 {
-    let AllCame { faults, trails } = all_came(alloc, bundle.tenants.as_slice())?;
+    let AllCame {
+        faults,
+        images,
+        trails,
+    } = all_came(alloc, bundle.tenants.as_slice())?;
     let text = report(alloc, bundle, faults.as_slice(), trails.as_slice())?;
+    book.images = images;
     book.trails = trails;
     Ok(Made::Text(Items::of(text)))
 }
@@ -143,7 +157,7 @@ fn bad_line(alloc: Global, fault: &Fault) -> Result<Made, NoMemory>
 
 // What is made of the bytes of a bundle.
 fn made(alloc: Global, listed: bool, bytes: &[u8], book: &mut Book) -> Result<Made, NoMemory>
-    ensures { IfOk result (Makes (spec.Runs listed book.new.trails) (spec.Refuses listed) bytes.now) }
+    ensures { IfOk result (Makes (spec.Runs listed book.new) (spec.Refuses listed) bytes.now) }
 {
     match read_bundle(alloc, bytes) {
         Ok(bundle) => {
@@ -158,8 +172,8 @@ fn made(alloc: Global, listed: bool, bytes: &[u8], book: &mut Book) -> Result<Ma
     }
 }
 
-/// Reads the bundle that the source gives, runs its tenants, keeps their trails in the book, and writes the report to the
-/// sink. `listed` says whether a list of turns is given, which isn't built yet. The status is 0 for that, 2 where the source
+/// Reads the bundle that the source gives, runs its tenants, keeps their code and their trails in the book, and writes the
+/// report to the sink. `listed` says whether a list of turns is given, which isn't built yet. The status is 0 for that, 2 where the source
 /// failed, 3 where the bytes are no bundle, 4 where the sink failed, 5 where memory was refused, and 6 where the source
 /// gives more than 67,108,864 bytes. With status 3 a line is written that tells the first fault and its place, or
 /// `bad bundle at turns: NotYet` where a list is given with a bundle.
@@ -170,8 +184,9 @@ pub fn run_turns_text<S: Source, K: Sink>(
     sink: &mut K,
     book: &mut Book,
 ) -> u8
-    requires { book.old.trails ≡ [] }
-    ensures turns { spec.Turns listed book.new.trails result (record { left = S.left source.old; later = S.left source.new; read_faults = S.faults source.old; read_faults_later = S.faults source.new; held = K.held sink.old; held_later = K.held sink.new; write_faults = K.faults sink.old; write_faults_later = K.faults sink.new }) }
+    requires images { book.old.images ≡ [] }
+    requires trails { book.old.trails ≡ [] }
+    ensures turns { spec.Turns listed book.new result (record { left = S.left source.old; later = S.left source.new; read_faults = S.faults source.old; read_faults_later = S.faults source.new; held = K.held sink.old; held_later = K.held sink.new; write_faults = K.faults sink.old; write_faults_later = K.faults sink.new }) }
     ensures read_counted { S.faults source.old ≤ S.faults source.new }
     ensures write_counted { K.faults sink.old ≤ K.faults sink.new }
     ensures asked { S.calls source.new ≤ S.calls source.old + most_bytes + 2 }
@@ -186,7 +201,7 @@ fn run_turns<S: Source, K: Sink>(
     sink: &mut K,
     book: &mut Book,
 ) -> Answer
-    ensures cause { Cause (spec.Runs listed book.new.trails) (spec.Refuses listed) result (record { left = S.left source.old; later = S.left source.new; read_faults = S.faults source.old; read_faults_later = S.faults source.new; held = K.held sink.old; held_later = K.held sink.new; write_faults = K.faults sink.old; write_faults_later = K.faults sink.new }) }
+    ensures cause { Cause (spec.Runs listed book.new) (spec.Refuses listed) result (record { left = S.left source.old; later = S.left source.new; read_faults = S.faults source.old; read_faults_later = S.faults source.new; held = K.held sink.old; held_later = K.held sink.new; write_faults = K.faults sink.old; write_faults_later = K.faults sink.new }) }
     ensures read_counted { S.faults source.old ≤ S.faults source.new }
     ensures write_counted { K.faults sink.old ≤ K.faults sink.new }
     ensures asked { S.calls source.new ≤ S.calls source.old + most_bytes + 2 }

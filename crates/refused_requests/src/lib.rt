@@ -6,4 +6,4 @@ mod laws;
 mod trail;
 
 pub use laws::laws_of_refusals;
-pub use trail::refused_trail;
+pub use trail::{not_yet, refused_trail};

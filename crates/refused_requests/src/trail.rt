@@ -8,8 +8,8 @@ use apex_num::{NoMemory, Text};
 use apex_schema::{Counts, Event, EventKind, Fault, FaultWord, Outcome, Reply, Request, Work};
 use std::alloc::Global;
 
-// What isn't built yet.
-fn not_yet(alloc: Global) -> Result<Fault, NoMemory>
+/// The fault of a block or a save that isn't built yet.
+pub fn not_yet(alloc: Global) -> Result<Fault, NoMemory>
     ensures { IfOk result (λ fault. fault ≡ spec.not_yet) }
 {
     Ok(Fault {

@@ -2,7 +2,7 @@
 
 ghost use Rattle.session_trails.specs.Laws.{EndsAreLegal, StartsAreLegal};
 
-/// What holds of every start and end: it keeps a legal trail legal, where the request is one that the session has, and its
+/// What holds of every start and end: it is a legal step of a trail, where the request is one that the session has, and its
 /// reply the one to which it comes on the rows as they are.
 pub fn laws_of_events()
     ensures starts { StartsAreLegal }

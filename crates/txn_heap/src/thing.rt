@@ -1,7 +1,9 @@
 // Values and things.
 
+ghost use Rattle.std.specs.Prelude.{◌≡◌, IfOk};
+
 use apex_list::Items;
-use apex_num::Cell;
+use apex_num::{Cell, NoMemory};
 
 /// A thing, by the number of things that were made before it in the transaction.
 #[derive(Clone, Copy, Debug, PartialEq, Eq, Hash, Drop)]
@@ -30,4 +32,16 @@ pub struct Record {
 pub enum Thing {
     Record(Record),
     List(Items<Value>),
+}
+
+impl Value {
+    /// An equal value. It names the same thing.
+    pub fn copy(&self) -> Result<Value, NoMemory>
+        ensures { IfOk result (λ v. v ≡ self.now) }
+    {
+        match self {
+            Value::Plain(cell) => Ok(Value::Plain(cell.copy()?)),
+            Value::Object(thing) => Ok(Value::Object(*thing)),
+        }
+    }
 }

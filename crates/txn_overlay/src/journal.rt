@@ -45,6 +45,14 @@ impl Journal {
         &self.overlay
     }
 
+    /// What the transaction changed, where it ends.
+    pub fn into_overlay(self) -> Overlay
+        ensures { result ≡ self.now }
+    {
+        let Journal { overlay, before: _ } = self;
+        overlay
+    }
+
     /// Writes a row, in place of an earlier change of its Id. Want of memory leaves all as it was.
     pub fn put(&mut self, row: Row) -> Result<(), NoMemory>
         ensures ok { OnOk result (self.new ≡ record { now = changed row.id (NowIs row) self.old.now; saved = self.old.saved }) }

@@ -1,5 +1,5 @@
 -- Values, operators on them, and their texts (docs/language.md, "Whole numbers" and "What code does").
-use Rattle.std.specs.Prelude.{ℕ, ℤ, zero, suc, pos, negsuc, ◌^◌, nat_lt, Bool, true, List, [], ◌∷◌, ◌++◌, codes, slice_get, Option, None, Some}
+use Rattle.std.specs.Prelude.{ℕ, ℤ, zero, suc, pos, negsuc, ◌^◌, ◌&&◌, nat_lt, Bool, true, false, List, [], ◌∷◌, ◌++◌, codes, slice_get, Option, None, Some}
 use Rattle.std.specs.Str.{is_utf8}
 use Rattle.std.specs.Int.{w32, int_wrapping_add, int_wrapping_sub, int_wrapping_mul, int_wrapping_div, int_wrapping_neg}
 use Rattle.apex_num.specs.declared.cell.Cell.{Cell}
@@ -58,15 +58,24 @@ on_integers Minus x y = whole (int_wrapping_sub w32 x y)
 on_integers Times x y = whole (int_wrapping_mul w32 x y)
 on_integers Over x y = quotient x y
 
--- a null operand throws; other cells aren't numbers
+-- an Integer has 32 bits; a whole number that needs more is none
+abbrev pub is_integer : ℤ → Bool
+is_integer (pos n) = nat_lt n (2 ^ 31)
+is_integer (negsuc n) = nat_lt n (2 ^ 31)
+
+abbrev pub if_integer : Bool → Calc → Calc
+if_integer true c = c
+if_integer false c = Other
+
+-- a null operand throws; other cells aren't Integers
 abbrev pub integers : Arithmetic → Value → Value → Calc
-integers op (Plain (C.Whole x)) (Plain (C.Whole y)) = on_integers op x y
+integers op (Plain (C.Whole x)) (Plain (C.Whole y)) = if_integer (is_integer x && is_integer y) (on_integers op x y)
 integers op (Plain C.Null) _ = Fails NullObject
 integers op _ (Plain C.Null) = Fails NullObject
 integers op _ _ = Other
 
 abbrev pub negative : Value → Calc
-negative (Plain (C.Whole x)) = whole (int_wrapping_neg w32 x)
+negative (Plain (C.Whole x)) = if_integer (is_integer x) (whole (int_wrapping_neg w32 x))
 negative (Plain C.Null) = Fails NullObject
 negative _ = Other
 

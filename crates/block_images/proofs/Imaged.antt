@@ -1,0 +1,34 @@
+-- Images one by one.
+use Rattle.std.proofs.Common.{◌≡◌, ℕ, zero, suc, ◌+◌, ◌<◌, List, [], ◌∷◌, ◌++◌, length, take, get_or, Option, sym, ap, ◌∙◌, subst, arith, add-one}
+use Rattle.std.specs.Prelude.{Result}
+use Rattle.type_names.specs.declared.fault.TreeFault.{TreeFault}
+use Rattle.typed_program.specs.declared.unit.TypedUnit.{TypedUnit}
+use Rattle.typed_statements.specs.declared.stmt.TypedStmt.{TypedStmt}
+use Rattle.typed_code.specs.declared.code.Image.{Image}
+use Rattle.session_runs.specs.Sessions.{AreChecked, AreImages, IsCheckedOr, IsImage}
+use Rattle.block_images.specs.Blocks.{block_of, blocks_of}
+
+images_more : (bs : List (Option (List TypedStmt))) (is : List (Option Image)) (b : Option (List TypedStmt)) (i : Option Image) → AreImages bs is → IsImage b i → AreImages (bs ++ b ∷ []) (is ++ i ∷ [])
+images_more [] [] b i h m = (m, tt)
+images_more [] (j ∷ is) b i h m = absurd h
+images_more (c ∷ bs) [] b i h m = absurd h
+images_more (c ∷ bs) (j ∷ is) b i h m = (h.0, images_more bs is b i h.1 m)
+
+checked_more : (is : List (Option Image)) (i : Option Image) → AreChecked is → IsCheckedOr i → AreChecked (is ++ i ∷ [])
+checked_more [] i h c = (c, tt)
+checked_more (j ∷ is) i h c = (h.0, checked_more is i h.1 c)
+
+-- the blocks up to a place with the one that stands there
+taken_more : (n : ℕ) (all : List (Result TypedUnit TreeFault)) (x : Result TypedUnit TreeFault) → n < length all → x ≡ get_or all n x → blocks_of (take (n + 1) all) ≡ blocks_of (take n all) ++ block_of x ∷ []
+taken_more n all x lt e = ap (λ k. blocks_of (take k all)) (add-one n) ∙ go n all lt e where
+  go : (n : ℕ) (all : List (Result TypedUnit TreeFault)) → n < length all → x ≡ get_or all n x → blocks_of (take (suc n) all) ≡ blocks_of (take n all) ++ block_of x ∷ []
+  go n [] lt e = absurd (omega arith)
+  go zero (y ∷ all) lt e = ap (λ z. block_of z ∷ []) (sym e)
+  go (suc n) (y ∷ all) lt e = ap (λ bs. block_of y ∷ bs) (go n all (omega arith) e)
+
+pub more : (n : ℕ) (all : List (Result TypedUnit TreeFault)) (x : Result TypedUnit TreeFault) (old new : List (Option Image)) (i : Option Image) → n < length all → x ≡ get_or all n x → AreImages (blocks_of (take n all)) old × AreChecked old → IsImage (block_of x) i → IsCheckedOr i → new ≡ old ++ i ∷ [] →
+    AreImages (blocks_of (take (n + 1) all)) new × AreChecked new
+more n all x old new i lt e h m c is = (
+  subst (λ js. AreImages (blocks_of (take (n + 1) all)) js) (sym is) (subst (λ bs. AreImages bs (old ++ i ∷ [])) (sym (taken_more n all x lt e)) (images_more (blocks_of (take n all)) old (block_of x) i h.0 m)),
+  subst (λ js. AreChecked js) (sym is) (checked_more old i h.1 c),
+)

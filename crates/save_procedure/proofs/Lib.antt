@@ -1,0 +1,6 @@
+pub mod Fine
+mod Users
+mod Rows
+mod Sets
+mod Chunks
+pub mod Goes

@@ -1,0 +1,4 @@
+pub mod Keys
+pub mod Chunks
+pub mod Does
+pub mod Goings

@@ -1,0 +1,49 @@
+-- Trails whose replies are those of the machine (docs/platform.md, "Trails").
+use Rattle.std.specs.Prelude.{◌≡◌, ℕ, List, [], ◌∷◌, slice_get, map, Option, None, Some}
+use Rattle.apex_schema.specs.declared.reply.Event.{Event}
+use Rattle.apex_schema.specs.declared.reply.EventKind.{EventKind}
+use Rattle.apex_schema.specs.declared.reply.EventKind.TheVariants.{Start, Grab, Refuse, Restart, End}
+use Rattle.apex_schema.specs.declared.reply.Reply.{Reply}
+use Rattle.apex_schema.specs.declared.request.Request.{Request}
+use Rattle.apex_schema.specs.declared.row.Row.{Row}
+use Rattle.apex_schema.specs.declared.row.Writes.{Writes}
+use Rattle.apex_schema.specs.declared.schema.Schema.{Schema}
+use Rattle.tenant_trails.specs.Legal.{Open, Session, State, Step, first_state}
+use Rattle.tenant_trails.specs.Runs.{Tenant}
+use Rattle.typed_code.specs.declared.code.Image.{Image}
+use Rattle.session_runs.specs.Sessions.{EndsWork, request_at, ticket_of}
+
+-- the open request of a session
+abbrev pub open_in : Option Session → Option Open
+open_in None = None
+open_in (Some session) = session.running
+
+module _ (schema : Schema) (images : List (Option Image)) (requests : List (List Request)) where
+  -- on these rows the request comes to the reply by its image, its steps told with it
+  abbrev pub Replies : List Row → ℕ → ℕ → Option Request → Reply → Type 0
+  Replies store s i None reply = ⊥
+  Replies store s i (Some r) reply = (writes : Writes) × EndsWork schema (ticket_of r s i) images r.work store reply writes
+
+  abbrev pub RepliesOpen : List Row → ℕ → Option Open → Reply → Type 0
+  RepliesOpen store s None reply = ⊥
+  RepliesOpen store s (Some o) reply = Replies store s o.request (request_at requests s o.request) reply
+
+  -- the reply of an end is the one of the open request on the rows before it
+  abbrev pub RepliesAt : State → ℕ → EventKind → Type 0
+  RepliesAt st s (Start i) = Unit {0}
+  RepliesAt st s Grab = Unit {0}
+  RepliesAt st s (Refuse row by) = Unit {0}
+  RepliesAt st s Restart = Unit {0}
+  RepliesAt st s (End reply) = RepliesOpen st.store s (open_in (slice_get st.sessions s)) reply
+
+  module _ (tenant : Tenant) where
+    -- a legal trail, from one state to another, each reply of which is so
+    abbrev pub RunsFrom : State → List Event → State → Type 0
+    RunsFrom st [] after = after ≡ st
+    RunsFrom st (e ∷ es) after = (mid : State) × Step tenant st e mid × RepliesAt st e.session e.kind × RunsFrom mid es after
+
+    -- from the tenant's first rows on, and each request is closed
+    pub record IsRunOf (trail : List Event) : Type 0 where
+      pub after : State
+      pub is : RunsFrom (first_state tenant) trail after
+      pub sessions : after.sessions ≡ map (λ (n : ℕ). record { closed = n; running = None }) tenant.requests

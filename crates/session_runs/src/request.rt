@@ -1,0 +1,106 @@
+// One request.
+
+ghost use Rattle.std.specs.Prelude.{◌≡◌, [], IfOk};
+ghost use Rattle.std.specs.Option.{option_copied};
+ghost use Rattle.record_store.specs.Heaps.{rows_in};
+ghost use Rattle.refused_requests.specs.Refusals as refusals;
+ghost use Rattle.tenant_core.specs.Logs.{IsCurrent};
+ghost use Rattle.save_procedure.specs.Does.{IsSound, HasIds};
+ghost use Rattle.session_runs.specs.Sessions.{AreChecked, EndsBlock, EndsWork, IsCheckedOr, there};
+
+use apex_list::Items;
+use apex_num::NoMemory;
+use apex_schema::{Counts, Fault, Outcome, Reply, Schema, Ticket, Work, Writes};
+use block_requests::{Attempt, run_image};
+use refused_requests::not_yet;
+use std::alloc::Global;
+use tenant_core::{Log, Shard};
+use typed_code::Image;
+
+// A request that is refused.
+fn refused(alloc: Global, fault: Fault) -> Attempt
+    ensures reply { result.reply ≡ refusals.refusal fault }
+    ensures writes { result.writes ≡ refusals.no_writes }
+    ensures asked { result.log.asked ≡ [] }
+    ensures answers { result.log.answers ≡ [] }
+{
+    let counts = Counts {
+        queries: 0,
+        rows: 0,
+        dml: 0,
+        saved: 0,
+        steps: 0,
+    };
+    let reply = Reply {
+        outcome: Outcome::Refused(fault),
+        debug: Items::new(alloc),
+        counts,
+        ops: 0,
+    };
+    let writes = Writes {
+        puts: Items::new(alloc),
+        drops: Items::new(alloc),
+    };
+    Attempt {
+        reply,
+        writes,
+        log: Log::new(alloc),
+    }
+}
+
+// The image of a block, where it has one.
+fn image_at(images: &[Option<Image>], block: usize) -> Option<&Image>
+    ensures { option_copied result ≡ there images.now block }
+{
+    match images.get(block) {
+        Some(Some(image)) => Some(image),
+        Some(None) | None => None,
+    }
+}
+
+// A request that runs a block, or that is refused since there is none.
+fn run_block(
+    alloc: Global,
+    schema: &Schema,
+    images: &[Option<Image>],
+    block: usize,
+    ticket: Ticket,
+    shard: &mut Shard,
+    tenant: usize,
+) -> Result<Attempt, NoMemory>
+    requires sound { IsSound schema.now }
+    requires ids { HasIds ticket }
+    requires checked { IsCheckedOr (there images.now block) }
+    ensures ends { IfOk result (λ e. EndsBlock schema.now ticket (there images.now block) (rows_in tenant shard.old.rows) e.reply e.writes) }
+    ensures log { IfOk result (λ e. IsCurrent (rows_in tenant shard.old.rows) e.log) }
+    ensures same { shard.new ≡ shard.old }
+{
+    match image_at(images, block) {
+        Some(image) => run_image(alloc, image, schema, ticket, shard, tenant),
+        None => Ok(refused(alloc, not_yet(alloc)?)),
+    }
+}
+
+/// Runs a request to its end. Nothing of the shard changes.
+pub fn run_work(
+    alloc: Global,
+    schema: &Schema,
+    images: &[Option<Image>],
+    work: &Work,
+    ticket: Ticket,
+    shard: &mut Shard,
+    tenant: usize,
+) -> Result<Attempt, NoMemory>
+    requires sound { IsSound schema.now }
+    requires ids { HasIds ticket }
+    requires checked { AreChecked images.now }
+    ensures ends { IfOk result (λ e. EndsWork schema.now ticket images.now work.now (rows_in tenant shard.old.rows) e.reply e.writes) }
+    ensures log { IfOk result (λ e. IsCurrent (rows_in tenant shard.old.rows) e.log) }
+    ensures same { shard.new ≡ shard.old }
+{
+    match work {
+        Work::Apex(block) => run_block(alloc, schema, images, *block, ticket, shard, tenant),
+        Work::Save { .. } => Ok(refused(alloc, not_yet(alloc)?)),
+        Work::Refused(fault) => Ok(refused(alloc, fault.copy()?)),
+    }
+}

@@ -1,0 +1,4 @@
+mod Ends
+mod Logs
+mod Opens
+mod Tenants

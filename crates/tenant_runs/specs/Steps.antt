@@ -1,0 +1,33 @@
+-- What the only session of a tenant has to run.
+use Rattle.std.specs.Prelude.{◌≡◌, ◌≤◌, List, [], ◌∷◌, length, Option, None, Some}
+use Rattle.apex_schema.specs.declared.reply.Event.{Event}
+use Rattle.apex_schema.specs.declared.request.Request.{Request}
+use Rattle.apex_schema.specs.declared.row.Row.{Row}
+use Rattle.apex_schema.specs.declared.schema.Schema.{Schema}
+use Rattle.session_runs.specs.Replies.{IsRunOf}
+use Rattle.session_runs.specs.Sessions.{HaveUsers, IsNew, tenant_of}
+use Rattle.session_trails.specs.States.{Told}
+use Rattle.tenant_requests.specs.declared.closed.Session.{Session}
+use Rattle.tenant_trails.specs.Legal.{Closed}
+use Rattle.typed_code.specs.declared.code.Image.{Image}
+use Rattle.typed_statements.specs.declared.stmt.TypedStmt.{TypedStmt}
+
+-- the requests of the first session, if there is one
+abbrev pub first_requests : List Session → Option (List Request)
+first_requests [] = None
+first_requests (s ∷ ss) = Some s.requests
+
+abbrev pub IsFew : Option (List Request) → Type 0
+IsFew None = Unit {0}
+IsFew (Some requests) = (length requests ≤ 1000000) × HaveUsers requests
+
+-- nothing has happened
+abbrev pub IsNewFor : Option (List Request) → Told → Type 0
+IsNewFor None told = told.events ≡ []
+IsNewFor (Some requests) told = IsNew told
+
+-- the trail is legal and closes each request, and each reply is the machine's
+abbrev pub IsRunFirst : Schema → List (Option (List TypedStmt)) → List (Option Image) → List Row → Option (List Request) → List Event → Type 0
+IsRunFirst schema blocks images seed None trail = trail ≡ []
+IsRunFirst schema blocks images seed (Some requests) trail =
+    Closed (tenant_of schema blocks seed (requests ∷ [])) trail × IsRunOf schema images (requests ∷ []) (tenant_of schema blocks seed (requests ∷ [])) trail

@@ -1,0 +1,6 @@
+pub mod Running
+pub mod Keeps
+mod Joined
+mod Lists
+mod Saves
+mod Once
