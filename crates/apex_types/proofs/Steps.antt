@@ -17,7 +17,7 @@ use Rattle.type_names.specs.TypeTrees.{Known}
 use Rattle.typed_program.specs.declared.unit.TypedUnit.{TypedUnit}
 use Rattle.apex_types.specs.declared.fault.CheckFault.{CheckFault}
 use Rattle.apex_types.specs.declared.fault.CheckFault.TheVariants as C
-use Rattle.apex_types.specs.declared.program.Program.{Program}
+use Rattle.tenant_parts.specs.declared.program.Program.{Program}
 use Rattle.apex_types.specs.Checks.{Check, Gives, Comes, next, naming, home_of, code_of, program_with, checked}
 
 names_in_tables : (tables : List MemberTable) → map naming (map members_of tables) ≡ map names_of_table tables

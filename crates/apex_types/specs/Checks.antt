@@ -18,7 +18,7 @@ use Rattle.unit_walk.specs.Units.{unit_step, block_step}
 use Rattle.apex_types.specs.declared.fault.CheckFault.{CheckFault}
 use Rattle.apex_types.specs.declared.fault.CheckFault.TheVariants as C
 use Rattle.apex_types.specs.declared.fault.TypeFault.{TypeFault}
-use Rattle.apex_types.specs.declared.program.Program.{Program}
+use Rattle.tenant_parts.specs.declared.program.Program.{Program}
 
 -- ---- what the check of units comes to: something, or the first fault with the number of its unit
 

@@ -11,7 +11,6 @@ ghost use Rattle.type_names.specs.Walks.{Comes};
 ghost use Rattle.apex_types.specs.Checks as spec;
 
 use crate::fault::{CheckFault, TypeFault};
-use crate::program::Program;
 use apex_list::Items;
 use apex_num::NoMemory;
 use apex_schema::{FaultWord, Schema};
@@ -23,6 +22,7 @@ use method_calls::MethodNames;
 use record_words::RecordWords;
 use schema_places::object_places;
 use std::alloc::{AllocError, Global};
+use tenant_parts::Program;
 use type_names::{TreeFault, WalkFault};
 use typed_program::TypedUnit;
 use unit_walk::{block_unit, unit};

@@ -3,8 +3,7 @@
 
 mod checker;
 mod fault;
-mod program;
 
 pub use checker::check;
 pub use fault::{CheckFault, TypeFault};
-pub use program::Program;
+pub use tenant_parts::Program;

@@ -6,7 +6,7 @@ use Rattle.apex_schema.specs.declared.reply.Fault.{Fault}
 use Rattle.bundle_read.specs.declared.entries.Bundle.{Bundle}
 use Rattle.bundle_read.specs.declared.entries.TenantPlan.{TenantPlan}
 use Rattle.bundle_read.specs.Bundles.{IsRead}
-use Rattle.tenant_front.specs.declared.part.TenantPart.{TenantPart}
+use Rattle.tenant_parts.specs.declared.part.TenantPart.{TenantPart}
 use Rattle.tenant_front.specs.Parts.{IsPart, IsFrontFault}
 use Rattle.typed_code.specs.declared.code.Image.{Image}
 use Rattle.bundle_turns.specs.declared.turns.Book.{Book}

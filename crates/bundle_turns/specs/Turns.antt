@@ -8,7 +8,7 @@ use Rattle.bundle_read.specs.declared.entries.TenantPlan.{TenantPlan}
 use Rattle.bundle_read.specs.Bundles.{IsRead}
 use Rattle.reply_text.specs.Lines.{escaped, word_text}
 use Rattle.reply_text.specs.Reports.{report}
-use Rattle.tenant_front.specs.declared.part.TenantPart.{TenantPart}
+use Rattle.tenant_parts.specs.declared.part.TenantPart.{TenantPart}
 use Rattle.tenant_front.specs.Parts.{IsPart, IsFrontFault}
 use Rattle.tenant_runs.specs.Tenants.{IsRan}
 use Rattle.typed_code.specs.declared.code.Image.{Image}

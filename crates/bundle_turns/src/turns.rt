@@ -17,7 +17,8 @@ use bundle_read::{Bundle, BundleFault, TenantPlan, read_bundle};
 use command_answers::{Answer, Made, input, output, status};
 use reply_text::{put_escaped, report, word};
 use std::alloc::{AllocError, Global};
-use tenant_front::{FrontFault, TenantPart, front};
+use tenant_front::{FrontFault, front};
+use tenant_parts::TenantPart;
 use tenant_runs::{Ran, laws_of_parts, run_tenant};
 use typed_code::Image;
 

@@ -2,17 +2,15 @@
 
 ghost use Rattle.std.specs.Prelude.{◌≡◌, ◌≤◌, length, Option, Some, IfOk, IsTrue};
 ghost use Rattle.session_runs.specs.Sessions.{HaveUsers};
-ghost use Rattle.tenant_front.specs.declared.part.TenantPart.{TenantPart as Part};
+ghost use Rattle.tenant_parts.specs.declared.part.TenantPart.{TenantPart as Part};
 ghost use Rattle.tenant_runs.specs.Tenants.{AreFew};
 
 use crate::blocks::block_of;
 use apex_list::Items;
 use apex_num::Text;
 use apex_schema::{Fault, FaultWord, Request, Schema, Work};
-use apex_types::Program;
 use std::alloc::{AllocError, Global};
-use tenant_front::TenantPart;
-use tenant_requests::Session;
+use tenant_parts::{Program, Session, TenantPart};
 use type_names::TreeFault;
 use typed_program::TypedUnit;
 

@@ -7,7 +7,8 @@ use apex_schema::{Request, Work};
 use bundle_read::{Bundle, BundleFault, TenantPlan, read_bundle};
 use std::alloc::{AllocError, Global};
 use std::process::ExitCode;
-use tenant_front::{FrontFault, TenantPart, front};
+use tenant_front::{FrontFault, front};
+use tenant_parts::TenantPart;
 
 // The greatest input that is read.
 const MOST_BYTES: usize = 10_000_000;

@@ -40,10 +40,6 @@ no_stale rows (q ∷ qs) (g ∷ gs) (suc k) h s = no_stale rows qs gs k h.1 s.1
 pub never_stale : (rows : List Row) (log : Log) (k : ℕ) → IsCurrent rows log → IsStale rows log k → ⊥
 never_stale rows log k h s = no_stale rows log.asked log.answers k h s
 
--- the log is current on the rows of the shard that answered
-pub still_current : (tenant : ℕ) (one other : Shared) (log : Log) → one ≡ other → IsCurrent (rows_in tenant other.rows) log → IsCurrent (rows_in tenant one.rows) log
-still_current tenant one other log e h = subst (λ s. IsCurrent (rows_in tenant s.rows) log) (sym e) h
-
 -- ---- from one start to the end
 
 module _ (tenant i : ℕ) (old mid work : Shared) (same : work ≡ mid) (stands : StandsAt i (told_at tenant old.tenants))

@@ -3,7 +3,7 @@ use Rattle.std.proofs.Common.{◌≡◌, refl, sym, ap, subst, ◌∙◌, ℕ, e
 use Rattle.std.specs.List.{list_any}
 use Rattle.std.proofs.lemmas.Bool.{eqb-false, or_parts}
 use Rattle.record_store.specs.Heaps.{rows_in}
-use Rattle.tenant_front.specs.declared.part.TenantPart.{TenantPart}
+use Rattle.tenant_parts.specs.declared.part.TenantPart.{TenantPart}
 use Rattle.tenant_core.specs.Shards.{Shared, OthersStay, IsOpened, AreOpened, numbers, Differ, ComesIn}
 use Rattle.tenant_core.proofs.Tenants.{eqb_sym, or_false, not_among}
 

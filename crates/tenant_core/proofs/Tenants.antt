@@ -9,7 +9,7 @@ use Rattle.std.specs.declared.cmp.Ordering.{Ordering}
 use Rattle.std.specs.declared.cmp.Ordering.TheVariants.{Less, Equal, Greater}
 use Rattle.std.proofs.lemmas.Bool.{eqb-true, eqb-false, or_parts}
 use Rattle.std.proofs.lemmas.List.{take_more}
-use Rattle.tenant_front.specs.declared.part.TenantPart.{TenantPart}
+use Rattle.tenant_parts.specs.declared.part.TenantPart.{TenantPart}
 use Rattle.tenant_core.specs.declared.shard.Finished.{Finished}
 use Rattle.tenant_core.specs.declared.shard.Kept.{Kept}
 use Rattle.tenant_core.specs.Finishes.{IsFinished, AreFinished}

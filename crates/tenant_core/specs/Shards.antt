@@ -10,7 +10,7 @@ use Rattle.apex_schema.specs.declared.row.Writes.{Writes}
 use Rattle.apex_schema.specs.Stores.{taken}
 use Rattle.record_store.specs.Heaps.{Heap, rows_in}
 use Rattle.session_trails.specs.States.{Told, IsSession, Ends as Closes, fresh}
-use Rattle.tenant_front.specs.declared.part.TenantPart.{TenantPart}
+use Rattle.tenant_parts.specs.declared.part.TenantPart.{TenantPart}
 use Rattle.tenant_trails.specs.Legal.{Session, some_writes}
 use Rattle.tenant_core.specs.declared.log.Log.{Log}
 use Rattle.tenant_core.specs.declared.shard.Ended.{Ended}

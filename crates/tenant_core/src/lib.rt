@@ -7,3 +7,4 @@ mod shard;
 
 pub use log::Log;
 pub use shard::{Ended, Finished, Kept, Shard};
+pub use tenant_parts::{Session, TenantPart};

@@ -21,7 +21,7 @@ use session_trails::Trail;
 use std::alloc::{AllocError, Global};
 use std::collections::BTreeMap;
 use std::marker::Model;
-use tenant_front::TenantPart;
+use tenant_parts::TenantPart;
 
 /// What is kept of a tenant beside its rows.
 #[derive(Drop)]
@@ -59,7 +59,7 @@ pub struct Shard {
 impl Model for Shard {
     ghost use Rattle.std.specs.Coded.{codes};
     ghost use Rattle.tenant_core.specs.Shards.{Shared, AreKept, Differ};
-    ghost use Rattle.tenant_front.specs.contracts.part.TenantPart as part;
+    ghost use Rattle.tenant_parts.specs.contracts.part.TenantPart as part;
 
     ghost Value = { Shared };
 

@@ -9,7 +9,7 @@ use Rattle.apex_schema.specs.declared.schema.Schema.{Schema}
 use Rattle.apex_schema.specs.Schemas.{user_of}
 use Rattle.apex_syntax.specs.declared.unit.Unit.{Unit as Tree}
 use Rattle.apex_types.specs.declared.fault.TypeFault.{TypeFault}
-use Rattle.apex_types.specs.declared.program.Program.{Program}
+use Rattle.tenant_parts.specs.declared.program.Program.{Program}
 use Rattle.apex_types.specs.Checks.{Check, Gives, Wrong as WrongIn, next, in_unit, units_from, class_after, block_of, home_of, typed_units, program_with, checked}
 use Rattle.schema_places.specs.Names.{object_names}
 use Rattle.type_names.specs.Walks.{Walk}

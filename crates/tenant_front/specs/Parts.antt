@@ -5,12 +5,12 @@ use Rattle.apex_schema.specs.declared.row.Row.{Row}
 use Rattle.apex_schema.specs.declared.schema.Schema.{Schema}
 use Rattle.apex_syntax.specs.declared.unit.Unit.{Unit as Tree}
 use Rattle.apex_types.specs.declared.fault.TypeFault.{TypeFault}
-use Rattle.apex_types.specs.declared.program.Program.{Program}
+use Rattle.tenant_parts.specs.declared.program.Program.{Program}
 use Rattle.apex_types.specs.Checks.{Gives, Wrong as WrongIn, checked, typed_units}
 use Rattle.bundle_read.specs.declared.entries.TenantPlan.{TenantPlan}
 use Rattle.bundle_read.specs.declared.entries.UnitPlan.{UnitPlan}
 use Rattle.seed_rows.specs.Seeds.{IsOnlySeed, all_written, IsFirstFault as IsSeedFault}
-use Rattle.tenant_requests.specs.declared.closed.Session.{Session}
+use Rattle.tenant_parts.specs.declared.session.Session.{Session}
 use Rattle.tenant_requests.specs.declared.open.OpenSession.{OpenSession}
 use Rattle.tenant_requests.specs.Requests.{AreOpenSessions, AreClosedSessions}
 use Rattle.tenant_schema.specs.Deployed.{IsDeployed, IsFault as IsSchemaFault}
@@ -21,7 +21,7 @@ use Rattle.type_names.specs.declared.fault.TreeFault.{TreeFault}
 use Rattle.typed_program.specs.declared.unit.TypedUnit.{TypedUnit}
 use Rattle.tenant_front.specs.declared.fault.FrontFault.{FrontFault}
 use Rattle.tenant_front.specs.declared.fault.FrontFault.TheVariants.{Wrong, NoMemory}
-use Rattle.tenant_front.specs.declared.part.TenantPart.{TenantPart}
+use Rattle.tenant_parts.specs.declared.part.TenantPart.{TenantPart}
 
 -- ---- the program
 

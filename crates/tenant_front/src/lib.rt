@@ -3,8 +3,6 @@
 
 mod deploy;
 mod fault;
-mod part;
 
 pub use deploy::front;
 pub use fault::FrontFault;
-pub use part::TenantPart;

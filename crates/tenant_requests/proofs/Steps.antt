@@ -7,7 +7,7 @@ use Rattle.apex_syntax.specs.declared.unit.Unit.{Unit as Tree}
 use Rattle.bundle_read.specs.declared.entries.RequestEntry.{RequestEntry}
 use Rattle.bundle_read.specs.declared.entries.SessionEntry.{SessionEntry}
 use Rattle.type_names.specs.declared.fault.TreeFault.{TreeFault}
-use Rattle.tenant_requests.specs.declared.closed.Session.{Session}
+use Rattle.tenant_parts.specs.declared.session.Session.{Session}
 use Rattle.tenant_requests.specs.declared.open.OpenRequest.{OpenRequest}
 use Rattle.tenant_requests.specs.declared.open.OpenSession.{OpenSession}
 use Rattle.tenant_requests.specs.Requests.{IsOpen, AreOpen, AreOpenSessions, IsClosed, AreClosed, AreClosedSessions}

@@ -14,7 +14,7 @@ use Rattle.save_requests.specs.Saves.{IsOnlyWork}
 use Rattle.tenant_units.specs.Faults.{IsFaultOf, Tells}
 use Rattle.tenant_units.specs.Trees.{block_rule, block_name, IsBlock}
 use Rattle.type_names.specs.declared.fault.TreeFault.{TreeFault}
-use Rattle.tenant_requests.specs.declared.closed.Session.{Session}
+use Rattle.tenant_parts.specs.declared.session.Session.{Session}
 use Rattle.tenant_requests.specs.declared.open.OpenRequest.{OpenRequest}
 use Rattle.tenant_requests.specs.declared.open.OpenSession.{OpenSession}
 use Rattle.tenant_requests.specs.declared.open.OpenWork.{OpenWork}

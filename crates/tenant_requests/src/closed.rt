@@ -8,14 +8,9 @@ use apex_list::Items;
 use apex_num::{NoMemory, Text};
 use apex_schema::{Request, Work};
 use std::alloc::{AllocError, Global};
+use tenant_parts::Session;
 use tenant_units::{UnitFault, fault_at};
 use type_names::TreeFault;
-
-/// A session: requests that run one after the other.
-#[derive(Debug, Drop)]
-pub struct Session {
-    pub requests: Items<Request>,
-}
 
 fn refused(alloc: Global, text: &Text, fault: &TreeFault) -> Result<Work, NoMemory>
     ensures { IfOk result (spec.IsRefused text.now fault.now) }

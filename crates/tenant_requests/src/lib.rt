@@ -5,5 +5,5 @@
 mod closed;
 mod open;
 
-pub use closed::{Session, closed_sessions};
+pub use closed::closed_sessions;
 pub use open::{OpenRequest, OpenSession, OpenSessions, OpenWork, open_sessions};

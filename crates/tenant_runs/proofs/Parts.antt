@@ -15,7 +15,7 @@ use Rattle.bundle_read.specs.declared.entries.RequestEntry.{RequestEntry}
 use Rattle.bundle_read.specs.declared.entries.SessionEntry.{SessionEntry}
 use Rattle.record_ids.specs.Ids.{most}
 use Rattle.session_runs.specs.Sessions.{HaveUsers}
-use Rattle.tenant_requests.specs.declared.closed.Session.{Session}
+use Rattle.tenant_parts.specs.declared.session.Session.{Session}
 use Rattle.tenant_requests.specs.declared.open.OpenRequest.{OpenRequest}
 use Rattle.tenant_requests.specs.declared.open.OpenSession.{OpenSession}
 use Rattle.tenant_requests.specs.Requests.{AreOpen, AreOpenSessions, AreClosed, AreClosedSessions}

@@ -11,8 +11,8 @@ use Rattle.session_trails.specs.States.{Told, fresh}
 use Rattle.tenant_core.specs.declared.shard.Finished.{Finished}
 use Rattle.tenant_core.specs.Finishes.{AreFinished}
 use Rattle.tenant_core.specs.Shards.{AreOpened, Shared, Tenants, seeded, told_at, told_of}
-use Rattle.tenant_front.specs.declared.part.TenantPart.{TenantPart}
-use Rattle.tenant_requests.specs.declared.closed.Session.{Session}
+use Rattle.tenant_parts.specs.declared.part.TenantPart.{TenantPart}
+use Rattle.tenant_parts.specs.declared.session.Session.{Session}
 use Rattle.tenant_trails.specs.Legal.{first_state}
 use Rattle.typed_code.specs.declared.code.Image.{Image}
 use Rattle.typed_statements.specs.declared.stmt.TypedStmt.{TypedStmt}

@@ -7,7 +7,7 @@ use Rattle.apex_schema.specs.declared.schema.Schema.{Schema}
 use Rattle.session_runs.specs.Replies.{IsRunOf}
 use Rattle.session_runs.specs.Sessions.{HaveUsers, IsNew, tenant_of}
 use Rattle.session_trails.specs.States.{Told}
-use Rattle.tenant_requests.specs.declared.closed.Session.{Session}
+use Rattle.tenant_parts.specs.declared.session.Session.{Session}
 use Rattle.tenant_trails.specs.Legal.{Closed}
 use Rattle.typed_code.specs.declared.code.Image.{Image}
 use Rattle.typed_statements.specs.declared.stmt.TypedStmt.{TypedStmt}

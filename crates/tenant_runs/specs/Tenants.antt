@@ -8,8 +8,8 @@ use Rattle.block_images.specs.Blocks.{blocks_of}
 use Rattle.session_runs.specs.Replies.{IsRunOf}
 use Rattle.session_runs.specs.Sessions.{AreChecked, AreImages, HaveUsers, tenant_of}
 use Rattle.tenant_core.specs.Shards.{seeded}
-use Rattle.tenant_front.specs.declared.part.TenantPart.{TenantPart}
-use Rattle.tenant_requests.specs.declared.closed.Session.{Session}
+use Rattle.tenant_parts.specs.declared.part.TenantPart.{TenantPart}
+use Rattle.tenant_parts.specs.declared.session.Session.{Session}
 use Rattle.tenant_trails.specs.Legal.{Closed}
 use Rattle.typed_code.specs.declared.code.Image.{Image}
 use Rattle.typed_statements.specs.declared.stmt.TypedStmt.{TypedStmt}

@@ -16,8 +16,7 @@ use block_images::block_images;
 use session_runs::run_session;
 use std::alloc::Global;
 use tenant_core::{Finished, Shard};
-use tenant_front::TenantPart;
-use tenant_requests::Session;
+use tenant_parts::{Session, TenantPart};
 use typed_code::Image;
 
 /// What a tenant came to.

@@ -1,5 +1,5 @@
 -- Values, operators on them, and their texts (docs/language.md, "Whole numbers" and "What code does").
-use Rattle.std.specs.Prelude.{ℕ, ℤ, zero, suc, pos, negsuc, ◌^◌, ◌&&◌, nat_lt, Bool, true, false, List, [], ◌∷◌, ◌++◌, codes, slice_get, Option, None, Some}
+use Rattle.std.specs.Prelude.{ℕ, ℤ, zero, suc, pos, negsuc, ◌^◌, ◌&&◌, nat_lt, Bool, true, false, List, [], ◌∷◌, ◌++◌, length, codes, slice_get, Option, None, Some}
 use Rattle.std.specs.Str.{is_utf8}
 use Rattle.std.specs.Int.{w32, int_wrapping_add, int_wrapping_sub, int_wrapping_mul, int_wrapping_div, int_wrapping_neg}
 use Rattle.apex_num.specs.declared.cell.Cell.{Cell}
@@ -111,24 +111,22 @@ record_in (Some o) cells = o.name ++ codes ":{" ++ listed (pair_texts (known_cel
 abbrev pub record_text : Schema → Record → List ℕ
 record_text schema r = record_in (slice_get schema.objects r.object) r.cells
 
--- the text of an item of a list, which is no list itself so far
-abbrev pub item_thing : Schema → Option Thing → List ℕ
-item_thing schema (Some (T.Record r)) = record_text schema r
-item_thing schema _ = []
+-- the texts of the items of a list, by that of a value
+abbrev pub texts_by : (Value → List ℕ) → List Value → List (List ℕ)
+texts_by text [] = []
+texts_by text (v ∷ vs) = text v ∷ texts_by text vs
 
-abbrev pub item_text : Schema → List Thing → Value → List ℕ
-item_text schema heap (Plain c) = shown c
-item_text schema heap (Object r) = item_thing schema (slice_get heap r.place)
+abbrev pub thing_text : (Value → List ℕ) → Schema → Option Thing → List ℕ
+thing_text text schema None = []
+thing_text text schema (Some (T.Record r)) = record_text schema r
+thing_text text schema (Some (T.List vs)) = codes "(" ++ listed (texts_by text vs) ++ codes ")"
 
-abbrev pub item_texts : Schema → List Thing → List Value → List (List ℕ)
-item_texts schema heap [] = []
-item_texts schema heap (v ∷ vs) = item_text schema heap v ∷ item_texts schema heap vs
+-- the text of a value, where at most so many things lead to each other
+abbrev pub text_within : ℕ → Schema → List Thing → Value → List ℕ
+text_within n schema heap (Plain c) = shown c
+text_within zero schema heap (Object r) = []
+text_within (suc n) schema heap (Object r) = thing_text (text_within n schema heap) schema (slice_get heap r.place)
 
-abbrev pub thing_text : Schema → List Thing → Option Thing → List ℕ
-thing_text schema heap None = []
-thing_text schema heap (Some (T.Record r)) = record_text schema r
-thing_text schema heap (Some (T.List vs)) = codes "(" ++ listed (item_texts schema heap vs) ++ codes ")"
-
+-- a thing leads to earlier ones alone, so no more lead to each other than there are
 abbrev pub text_of : Schema → List Thing → Value → List ℕ
-text_of schema heap (Plain c) = shown c
-text_of schema heap (Object r) = thing_text schema heap (slice_get heap r.place)
+text_of schema heap v = text_within (length heap) schema heap v

@@ -4,3 +4,4 @@ mod Joined
 mod Lists
 mod Saves
 mod Once
+mod Within

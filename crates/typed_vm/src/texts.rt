@@ -1,7 +1,6 @@
 // The text of a value.
 
-ghost use Rattle.std.specs.Prelude.{◌≡◌, ◌++◌, ℕ, List, OnOk, IfOk, string_bytes};
-ghost use Rattle.std.specs.Option.{option_copied};
+ghost use Rattle.std.specs.Prelude.{◌≡◌, ◌++◌, ℕ, List, OnOk, IfOk, slice_get, string_bytes};
 ghost use Rattle.builtin_table.specs.Shown.{shown};
 ghost use Rattle.typed_meaning.specs.Values as spec;
 ghost use Rattle.typed_vm.specs.Texts.{comma, tail_of, known_one};
@@ -96,64 +95,75 @@ fn push_record(
     line.push_str("}")
 }
 
-// An item of a list.
-fn push_item(
-    alloc: Global,
-    schema: &Schema,
-    heap: &[Thing],
-    item: &Value,
-    line: &mut String,
-) -> Result<(), NoMemory>
-    ensures { OnOk result (string_bytes line.new ≡ string_bytes line.old ++ spec.item_text schema.now heap.now item.now) }
-{
-    match item {
-        Value::Plain(cell) => push_cell(alloc, cell, line),
-        Value::Object(thing) => match heap.get(thing.place) {
-            Some(Thing::Record(record)) => push_record(alloc, schema, record, line),
-            Some(Thing::List(_)) | None => Ok(()),
-        },
-    }
-}
-
+// The items of a list, with a comma between each two.
+#[cycle(texts)]
 fn push_items(
     alloc: Global,
     schema: &Schema,
     heap: &[Thing],
+    most: usize,
     items: &[Value],
     line: &mut String,
 ) -> Result<(), NoMemory>
-    ensures { OnOk result (string_bytes line.new ≡ string_bytes line.old ++ spec.listed (spec.item_texts schema.now heap.now items.now)) }
+    ensures { OnOk result (string_bytes line.new ≡ string_bytes line.old ++ spec.listed (spec.texts_by (spec.text_within most schema.now heap.now) items.now)) }
 {
     let mut first = true;
     for item in items {
         push_comma(first, line)?;
-        push_item(alloc, schema, heap, item, line)?;
+        push_value(alloc, schema, heap, most, item, line)?;
         first = false;
     }
     Ok(())
 }
 
+// The thing at a place, where at most so many more lead to each other.
+#[cycle(texts)]
 fn push_thing(
     alloc: Global,
     schema: &Schema,
     heap: &[Thing],
-    thing: Option<&Thing>,
+    most: usize,
+    place: usize,
     line: &mut String,
 ) -> Result<(), NoMemory>
-    ensures { OnOk result (string_bytes line.new ≡ string_bytes line.old ++ spec.thing_text schema.now heap.now (option_copied thing.entry)) }
+    ensures { OnOk result (string_bytes line.new ≡ string_bytes line.old ++ spec.thing_text (spec.text_within most schema.now heap.now) schema.now (slice_get heap.now place)) }
 {
-    match thing {
+    match heap.get(place) {
         None => Ok(()),
         Some(Thing::Record(record)) => push_record(alloc, schema, record, line),
         Some(Thing::List(items)) => {
             line.push_str("(")?;
-            push_items(alloc, schema, heap, items.as_slice(), line)?;
+            push_items(alloc, schema, heap, most, items.as_slice(), line)?;
             line.push_str(")")
         }
     }
 }
 
-/// The text of a value, as it is printed.
+// A value, where at most so many things lead to each other. What types allow nests no deeper than they do.
+#[cycle(texts)]
+fn push_value(
+    alloc: Global,
+    schema: &Schema,
+    heap: &[Thing],
+    most: usize,
+    value: &Value,
+    line: &mut String,
+) -> Result<(), NoMemory>
+    ensures { OnOk result (string_bytes line.new ≡ string_bytes line.old ++ spec.text_within most schema.now heap.now value.now) }
+{
+    match value {
+        Value::Plain(cell) => push_cell(alloc, cell, line),
+        Value::Object(thing) => {
+            if most > 0 {
+                push_thing(alloc, schema, heap, most - 1, thing.place, line)
+            } else {
+                Ok(())
+            }
+        }
+    }
+}
+
+/// The text of a value, as it is printed. A list in a list has its text there.
 pub fn text_of(
     alloc: Global,
     schema: &Schema,
@@ -164,9 +174,9 @@ pub fn text_of(
 {
     match value {
         Value::Plain(cell) => cell_text(alloc, cell),
-        Value::Object(thing) => {
+        Value::Object(_) => {
             let mut line = String::new(alloc);
-            push_thing(alloc, schema, heap, heap.get(thing.place), &mut line)?;
+            push_value(alloc, schema, heap, heap.len(), value, &mut line)?;
             Text::from_string(alloc, line)
         }
     }

@@ -1,7 +1,8 @@
 use Rattle.std.proofs.Common.{subst}
 use Rattle.record_store.specs.Heaps.{rows_in}
 use Rattle.tenant_core.specs.Shards.{Ends, told_at}
-use Rattle.session_runs.proofs.Attempts.{log_whole, may_close, never_stale, run_is, still_current}
+use Rattle.block_requests.proofs.Asked.{log_same}
+use Rattle.session_runs.proofs.Attempts.{log_whole, may_close, never_stale, run_is}
 use Rattle.session_runs.proofs.Legality.{may_start}
 use Rattle.session_runs.proofs.session.run_next.Goals as goal
 
@@ -20,7 +21,7 @@ end-requires-clause-whole c =
 pub unreachable-requires : goal.unreachable-requires
 unreachable-requires c =
     never_stale (rows_in c.args.tenant c.run_work.new.shard.rows) c.in_ok-reply.field-0.log c.in-Stale.field-0
-    (still_current c.args.tenant c.run_work.new.shard c.start.new.self c.in_ok-reply.field-0.log c.in_ok-reply.ensures.same c.in_ok-reply.ensures.log)
+    (log_same c.args.tenant c.run_work.new.shard c.start.new.self c.in_ok-reply.field-0.log c.in_ok-reply.ensures.same c.in_ok-reply.ensures.log)
     (subst (λ e. Ends c.args.tenant 0 c.in_ok-reply.field-0.log c.in_ok-reply.field-0.reply c.in_ok-reply.field-0.writes c.run_work.new.shard c.end.new.self e) c.in-Stale.is c.in_ok-end.ensures.ended).0
 
 pub returns-clause-runs : goal.returns-clause-runs

@@ -1,9 +1,9 @@
 // The part of a tenant.
 
+use crate::program::Program;
+use crate::session::Session;
 use apex_list::Items;
 use apex_schema::{Row, Schema};
-use apex_types::Program;
-use tenant_requests::Session;
 
 /// What a run has of a tenant.
 #[derive(Debug, Drop)]
