@@ -1,77 +1,52 @@
 -- Dates and moments at the front of a text.
-use Rattle.std.proofs.Common.{arith, ◌≡◌, ⊎_elim, inl, inr, ◌+◌, ◌-◌, ◌≤◌, ℕ, zero, suc, Bool, true, false, List, [], ◌∷◌, ◌++◌, length, take, drop, Option, Some, None, refl, sym, ap, ◌∙◌, append_assoc, length-append}
-use Rattle.std.proofs.lemmas.List.{length-take-le, take-append-drop}
-use Rattle.date_texts.specs.Forms.{IsThree, BeginsDate, BeginsMoment}
+use Rattle.std.proofs.Common.{arith, ◌≡◌, ⊎_elim, inl, inr, ◌+◌, ◌-◌, ◌≤◌, ℕ, Bool, true, false, List, length, take, drop, Option, Some, None, refl, sym, ap, ◌∙◌, ◌&&◌, eqb}
+use Rattle.std.proofs.lemmas.List.{length-take-le, length-take, take-take, drop-take, get_or-take}
+use Rattle.civil_dates.specs.Texts.{is_three, begins_date, begins_moment, BeginsDate, BeginsMoment}
+use Rattle.civil_dates.proofs.TextSteps.{fields_decide, begins_decide, moment_long as begins_long}
 use Rattle.apex_lexer.specs.declared.lexeme.Lexeme.{Lexeme}
 use Rattle.apex_lexer.specs.declared.scan.Found.{Found}
 use Rattle.apex_lexer.specs.Lexemes.{plain, DateSays, MomentSays, Dated}
 use Rattle.apex_lexer.specs.Reading.{IsFirst}
 use Rattle.apex_lexer.specs.Scans.{IsLongest}
 
-three_long : (n sign : ℕ) (text : List ℕ) (a b c : ℕ) → IsThree n sign text a b c → length text ≡ n + 6
-three_long n sign text a b c t =
-    let f = t.fields.0.0 in let s = t.fields.1.0 in let l = t.fields.2.0 in
-    let inner = length-append t.second (sign ∷ t.third) in
-    ap length t.written ∙ length-append t.first (sign ∷ (t.second ++ sign ∷ t.third)) ∙ omega arith
-
 pub date_long : (text : List ℕ) → BeginsDate text → 10 ≤ length text
-date_long text d = let ten = three_long 4 45 d.0 d.3 d.4 d.5 d.6 in let l = ap length d.2 ∙ length-append d.0 d.1 in omega arith
+date_long text d = let f = (fields_decide 4 45 (take 10 text)).0 d in let e = f.0 in let l = length-take 10 text in omega arith
 
 pub moment_long : (text : List ℕ) → BeginsMoment text → 20 ≤ length text
-moment_long text m =
-    let x = m.4 in let y = m.5 in
-    let ten = three_long 4 45 m.0 x.0 x.1 x.2 x.3 in
-    let eight = three_long 2 58 m.1 y.0 y.1 y.2 y.3 in
-    let whole = ap length m.3 ∙ length-append m.0 (84 ∷ (m.1 ++ 90 ∷ m.2)) in
-    let inner = length-append m.1 (90 ∷ m.2) in
-    omega arith
+moment_long text m = begins_long text ((begins_decide text).0 m)
 
 moment_date : (text : List ℕ) → BeginsMoment text → BeginsDate text
-moment_date text m = let x = m.4 in (m.0, 84 ∷ (m.1 ++ 90 ∷ m.2), m.3, x.0, x.1, x.2, x.3)
+moment_date text m = ((begins_decide text).0 m).0
+
+-- a front that is long enough begins as the whole does
+date_same : (text : List ℕ) (m : ℕ) → 10 ≤ m → begins_date (take m text) ≡ begins_date text
+date_same text m le = ap (is_three 4 45) (take-take 10 m text le)
+
+clock_same : (text : List ℕ) (m : ℕ) → 20 ≤ m → take 8 (drop 11 (take m text)) ≡ take 8 (drop 11 text)
+clock_same text m le =
+    let k : 11 + (m - 11) ≡ m = omega arith in
+    ap (take 8) (ap (λ n. drop 11 (take n text)) (sym k) ∙ drop-take 11 (m - 11) text) ∙ take-take 8 (m - 11) (drop 11 text) (omega arith)
+
+moment_same : (text : List ℕ) (m : ℕ) → 20 ≤ m → begins_moment (take m text) ≡ begins_moment text
+moment_same text m le =
+    let date = date_same text m (omega arith) in
+    let sign = get_or-take m text 10 0 (omega arith) in
+    let time = clock_same text m le in
+    let zone = get_or-take m text 19 0 (omega arith) in
+    λ i. date i && (eqb (sign i) 84 && (is_three 2 58 (time i) && eqb (zone i) 90))
 
 -- a front that begins so
 date_whole : (text : List ℕ) (m : ℕ) → BeginsDate (take m text) → BeginsDate text
-date_whole text m d =
-    (d.0, d.1 ++ drop m text, sym (take-append-drop m text) ∙ ap (λ l. l ++ drop m text) d.2 ∙ append_assoc d.0 d.1 (drop m text), d.3, d.4, d.5, d.6)
+date_whole text m d = let l = date_long (take m text) d in let t = length-take m text in sym (date_same text m (omega arith)) ∙ d
 
 moment_whole : (text : List ℕ) (m : ℕ) → BeginsMoment (take m text) → BeginsMoment text
-moment_whole text m d =
-    let rest = drop m text in (
-      d.0,
-      d.1,
-      d.2 ++ rest,
-      sym (take-append-drop m text) ∙ ap (λ l. l ++ rest) d.3 ∙ append_assoc d.0 (84 ∷ (d.1 ++ 90 ∷ d.2)) rest ∙ ap (λ l. d.0 ++ 84 ∷ l) (append_assoc d.1 (90 ∷ d.2) rest),
-      d.4,
-      d.5,
-    )
-
-take_past : (xs ys : List ℕ) (m : ℕ) → length xs ≤ m → take m (xs ++ ys) ≡ xs ++ take (m - length xs) ys
-take_past [] ys m le = let e : m ≡ m - 0 = omega arith in ap (λ n. take n ys) e
-take_past (x ∷ xs) ys zero le = absurd (omega arith)
-take_past (x ∷ xs) ys (suc m) le = let e : m - length xs ≡ suc m - suc (length xs) = omega arith in ap (λ l. x ∷ l) (take_past xs ys m (omega arith) ∙ ap (λ n. xs ++ take n ys) e)
+moment_whole text m d = let l = moment_long (take m text) d in let t = length-take m text in sym (moment_same text m (omega arith)) ∙ d
 
 date_front : (text : List ℕ) (m : ℕ) → 10 ≤ m → BeginsDate text → BeginsDate (take m text)
-date_front text m le d =
-    let ten = three_long 4 45 d.0 d.3 d.4 d.5 d.6 in
-    (d.0, take (m - length d.0) d.1, ap (take m) d.2 ∙ take_past d.0 d.1 m (omega arith), d.3, d.4, d.5, d.6)
+date_front text m le d = date_same text m le ∙ d
 
 moment_front : (text : List ℕ) (m : ℕ) → 20 ≤ m → BeginsMoment text → BeginsMoment (take m text)
-moment_front text m le d =
-    let x = d.4 in let y = d.5 in
-    let ten = three_long 4 45 d.0 x.0 x.1 x.2 x.3 in
-    let eight = three_long 2 58 d.1 y.0 y.1 y.2 y.3 in
-    let k = m - length d.0 - 1 in
-    let one : m - length d.0 ≡ suc k = omega arith in
-    let j = k - length d.1 - 1 in
-    let two : k - length d.1 ≡ suc j = omega arith in (
-      d.0,
-      d.1,
-      take j d.2,
-      ap (take m) d.3 ∙ take_past d.0 (84 ∷ (d.1 ++ 90 ∷ d.2)) m (omega arith) ∙ ap (λ n. d.0 ++ take n (84 ∷ (d.1 ++ 90 ∷ d.2))) one
-          ∙ ap (λ l. d.0 ++ 84 ∷ l) (take_past d.1 (90 ∷ d.2) k (omega arith) ∙ ap (λ n. d.1 ++ take n (90 ∷ d.2)) two),
-      d.4,
-      d.5,
-    )
+moment_front text m le d = moment_same text m le ∙ d
 
 -- what has a date or moment's form begins as a date
 pub dated_begins : (bytes : List ℕ) (l : Lexeme) → Dated bytes l → BeginsDate bytes

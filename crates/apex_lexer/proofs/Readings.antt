@@ -4,7 +4,7 @@ use Rattle.std.specs.Str.{IsUtf8, IsValidUpTo}
 use Rattle.std.proofs.lemmas.List.{map-append}
 use Rattle.std.proofs.Math.Seq.{take-length}
 use Rattle.std.proofs.lemmas.Bool.Decides.{leb_tells}
-use Rattle.date_texts.proofs.Whole.{one_date, one_moment}
+use Rattle.civil_dates.specs.Texts.{date_value, moment_value}
 use Rattle.apex_lexer.specs.declared.token.TokenKind.TheVariants.{Date, Moment}
 use Rattle.apex_lexer.specs.declared.token.Token.{Token}
 use Rattle.apex_lexer.specs.declared.lexeme.LexWord.{LexWord}
@@ -25,14 +25,14 @@ some_is o a b e f = let g : Some a ≡ Some b = sym e ∙ f in cc
 date_once : (bytes : List ℕ) (a b : Lexeme) → DateSays bytes a → DateSays bytes b → a ≡ b
 date_once bytes a b x y =
     ⊎_elim
-    (λ p. ⊎_elim (λ q. p.2 ∙ ap (λ n. Says (Date n)) (one_date bytes p.0 q.0 p.1 q.1) ∙ sym q.2) (λ q. absurd (q.0 p.0 p.1)) y)
+    (λ p. ⊎_elim (λ q. p.2 ∙ ap (λ n. Says (Date n)) (some_is (date_value bytes) p.0 q.0 p.1 q.1) ∙ sym q.2) (λ q. absurd (q.0 p.0 p.1)) y)
     (λ p. ⊎_elim (λ q. absurd (p.0 q.0 q.1)) (λ q. p.1 ∙ sym q.1) y)
     x
 
 moment_once : (bytes : List ℕ) (a b : Lexeme) → MomentSays bytes a → MomentSays bytes b → a ≡ b
 moment_once bytes a b x y =
     ⊎_elim
-    (λ p. ⊎_elim (λ q. p.2 ∙ ap (λ n. Says (Moment n)) (one_moment bytes p.0 q.0 p.1 q.1) ∙ sym q.2) (λ q. absurd (q.0 p.0 p.1)) y)
+    (λ p. ⊎_elim (λ q. p.2 ∙ ap (λ n. Says (Moment n)) (some_is (moment_value bytes) p.0 q.0 p.1 q.1) ∙ sym q.2) (λ q. absurd (q.0 p.0 p.1)) y)
     (λ p. ⊎_elim (λ q. absurd (p.0 q.0 q.1)) (λ q. p.1 ∙ sym q.1) y)
     x
 

@@ -3,7 +3,7 @@ use Rattle.std.specs.Prelude.{◌≡◌, ℕ, suc, ◌+◌, ◌-◌, ◌*◌, �
 use Rattle.std.specs.List.{list_all}
 use Rattle.std.specs.Char.{is_ascii_digit, is_ascii_alphabetic}
 use Rattle.std.specs.Str.Parse.{digits_value}
-use Rattle.date_texts.specs.Forms.{IsDateText, IsMomentText, BeginsDate, BeginsMoment}
+use Rattle.civil_dates.specs.Texts.{IsDateText, IsMomentText, BeginsDate, BeginsMoment}
 use Rattle.apex_lexer.specs.declared.token.Sign.{Sign}
 use Rattle.apex_lexer.specs.declared.token.TokenKind.{TokenKind}
 use Rattle.apex_lexer.specs.declared.token.TokenKind.TheVariants.{Integer, Long, Decimal, Quoted, Date, Moment, Sign as IsSign}

@@ -1,10 +1,46 @@
--- Where the keywords are no names (docs/formats.md, "Tokens").
+-- Where the keywords are no names (docs/formats.md, "Tokens"): each keyword stands here once.
 use Rattle.apex_lexer.specs.declared.token.Keyword.{Keyword}
-use Rattle.apex_lexer.specs.declared.token.Keyword.TheVariants.{Select, From, Where, And, Or, Not, In, Like, Order, By, Group, Limit, Offset, Asc, Desc, Nulls, After, Before, Count, First, Get, Inherited, Last, On, Set, Sharing, Trigger, With, Without}
+use Rattle.apex_lexer.specs.declared.token.Keyword.TheVariants.{Abstract, Break, Catch, Class, Continue, Delete, Do, Else, Extends, False, Final, Finally, For, Global, If, Implements, Insert, Interface, New, Null, Override, Private, Protected, Public, Return, Static, Super, This, Throw, True, Try, Update, Upsert, Virtual, Void, While, Select, From, Where, And, Or, Not, In, Like, Order, By, Group, Limit, Offset, Asc, Desc, Nulls, After, Before, Count, First, Get, Inherited, Last, On, Set, Sharing, Trigger, With, Without}
 use Rattle.apex_lexer.specs.declared.token.Reserved.{Reserved}
 use Rattle.apex_lexer.specs.declared.token.Reserved.TheVariants.{Everywhere, InQuery, Nowhere}
 
 abbrev pub reserved : Keyword → Reserved
+reserved Abstract = Everywhere
+reserved Break = Everywhere
+reserved Catch = Everywhere
+reserved Class = Everywhere
+reserved Continue = Everywhere
+reserved Delete = Everywhere
+reserved Do = Everywhere
+reserved Else = Everywhere
+reserved Extends = Everywhere
+reserved False = Everywhere
+reserved Final = Everywhere
+reserved Finally = Everywhere
+reserved For = Everywhere
+reserved Global = Everywhere
+reserved If = Everywhere
+reserved Implements = Everywhere
+reserved Insert = Everywhere
+reserved Interface = Everywhere
+reserved New = Everywhere
+reserved Null = Everywhere
+reserved Override = Everywhere
+reserved Private = Everywhere
+reserved Protected = Everywhere
+reserved Public = Everywhere
+reserved Return = Everywhere
+reserved Static = Everywhere
+reserved Super = Everywhere
+reserved This = Everywhere
+reserved Throw = Everywhere
+reserved True = Everywhere
+reserved Try = Everywhere
+reserved Update = Everywhere
+reserved Upsert = Everywhere
+reserved Virtual = Everywhere
+reserved Void = Everywhere
+reserved While = Everywhere
 reserved Select = InQuery
 reserved From = InQuery
 reserved Where = InQuery
@@ -34,4 +70,3 @@ reserved Sharing = Nowhere
 reserved Trigger = Nowhere
 reserved With = Nowhere
 reserved Without = Nowhere
-reserved _ = Everywhere

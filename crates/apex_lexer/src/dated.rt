@@ -1,7 +1,7 @@
 // Dates and moments, which are read between brackets.
 
 ghost use Rattle.std.specs.Prelude.{◌≡◌, true, length};
-ghost use Rattle.date_texts.specs.Forms.{BeginsDate};
+ghost use Rattle.civil_dates.specs.Texts.{BeginsDate};
 ghost use Rattle.apex_lexer.specs.Lexemes.{DateSays, MomentSays};
 ghost use Rattle.apex_lexer.specs.Reading.{IsFirst};
 ghost use Rattle.apex_lexer.specs.Scans.{Fits};
@@ -9,7 +9,7 @@ ghost use Rattle.apex_lexer.specs.Scans.{Fits};
 use crate::lexeme::{LexWord, Lexeme};
 use crate::scan::Found;
 use crate::token::TokenKind;
-use date_texts::{begins_moment, read_date, read_moment};
+use civil_dates::{begins_moment, read_date, read_moment};
 
 fn date(bytes: &[u8]) -> Lexeme
     ensures says { DateSays bytes.now result }

@@ -2,7 +2,7 @@
 
 ghost use Rattle.std.specs.Prelude.{◌≡◌, ◌≤◌, ◌<◌, ◌+◌, List, true, length, take, drop, map, MatchBool, MatchOption, MatchResult, IfOk, IfErr};
 ghost use Rattle.std.specs.Str.{IsUtf8};
-ghost use Rattle.date_texts.specs.Forms.{BeginsDate};
+ghost use Rattle.civil_dates.specs.Texts.{BeginsDate};
 ghost use Rattle.apex_lexer.specs.Words.{sign_shown, sign_words, keyword_shown, keyword_words};
 ghost use Rattle.apex_lexer.specs.Brackets.{inside};
 ghost use Rattle.apex_lexer.specs.Unclosed.{IsCursor};
@@ -19,7 +19,7 @@ use crate::token::{Token, TokenKind};
 use crate::words::{keyword_table, sign_table};
 use apex_text::Span;
 use case_tables::Cases;
-use date_texts::begins_date;
+use civil_dates::begins_date;
 use std::alloc::{AllocError, Global};
 use thiserror::Error;
 

@@ -203,6 +203,42 @@ impl Keyword {
         ensures { result ≡ reserved self }
     {
         match self {
+            Keyword::Abstract
+            | Keyword::Break
+            | Keyword::Catch
+            | Keyword::Class
+            | Keyword::Continue
+            | Keyword::Delete
+            | Keyword::Do
+            | Keyword::Else
+            | Keyword::Extends
+            | Keyword::False
+            | Keyword::Final
+            | Keyword::Finally
+            | Keyword::For
+            | Keyword::Global
+            | Keyword::If
+            | Keyword::Implements
+            | Keyword::Insert
+            | Keyword::Interface
+            | Keyword::New
+            | Keyword::Null
+            | Keyword::Override
+            | Keyword::Private
+            | Keyword::Protected
+            | Keyword::Public
+            | Keyword::Return
+            | Keyword::Static
+            | Keyword::Super
+            | Keyword::This
+            | Keyword::Throw
+            | Keyword::True
+            | Keyword::Try
+            | Keyword::Update
+            | Keyword::Upsert
+            | Keyword::Virtual
+            | Keyword::Void
+            | Keyword::While => Reserved::Everywhere,
             Keyword::Select
             | Keyword::From
             | Keyword::Where
@@ -232,7 +268,6 @@ impl Keyword {
             | Keyword::Trigger
             | Keyword::With
             | Keyword::Without => Reserved::Nowhere,
-            _ => Reserved::Everywhere,
         }
     }
 }

@@ -1,3 +1,7 @@
+pub mod Refusals
+pub mod States
 pub mod Values
-pub mod Results
-pub mod Meaning
+pub mod Expressions
+pub mod Statements
+pub mod Runs
+pub mod Laws

@@ -1,11 +1,9 @@
-//! What Apex source means: a source evaluator, as definitions that no program runs.
-//!
-//! The types are those that the machine and the evaluator share: values, exceptions and replies. The evaluator
-//! stands in specs/ and covers small blocks so far (docs/language.md).
+//! What the requests of a tenant mean: a source evaluator of typed code, as definitions that no program runs, laws about it, and
+//! what a refused request comes to (docs/language.md, "What code does").
 #![tactic(auto)]
 
-mod reply;
-mod value;
+mod laws;
+mod refusals;
 
-pub use reply::{Counts, Outcome, Reply};
-pub use value::{Abrupt, Exception, Value};
+pub use laws::laws_of_runs;
+pub use refusals::{no_writes, not_yet, refusal};

@@ -9,7 +9,7 @@ use Rattle.apex_num.specs.Decimals.{IsHalfEven, Answers, Rounds, distance}
 use Rattle.apex_num.specs.declared.dec.NumFault.{NumFault}
 use Rattle.apex_num.specs.Rounding.{Rises, Stays}
 
-parts : (a e : ℕ) → a ≡ a / e * e + a % e
+pub parts : (a e : ℕ) → a ≡ a / e * e + a % e
 parts a e = let k = mod-add-div a e in let c : e * (a / e) ≡ a / e * e = mul_comm e (a / e) in omega arith
 
 euclid_pos : (a e : ℕ) → pos a ≡ pos (a / e) *ℤ pos e +ℤ pos (a % e)

@@ -1,4 +1,6 @@
 mod Checks
-mod HalfEven
-mod Printing
+pub mod HalfEven
+mod IdValues
+pub mod Printing
 mod Reading
+mod Samples

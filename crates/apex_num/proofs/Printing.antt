@@ -116,7 +116,7 @@ mod_times d q p hq hp =
     let split : d * p ≡ d / q * (q * p) + d % q * p = ap (λ x. x * p) (sym (div-add-mod' d q)) ∙ spread (d / q) (d % q) q p in
     ap (λ x. x % (q * p)) split ∙ mul-add-mod_self_right (d / q) (q * p) (d % q * p) ∙ mod-eq_of_lt (mul-lt-mul_of_pos_right (mod-lt d hq) hp)
 
-ten_power : (k : ℕ) → 0 < 10 ^ k
+pub ten_power : (k : ℕ) → 0 < 10 ^ k
 ten_power k = one-le-pow k 10 (omega arith)
 
 -- digits that come to the same need no fewer places

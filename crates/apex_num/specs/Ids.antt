@@ -1,5 +1,6 @@
 -- Ids: fifteen letters or digits, and the three check characters behind them (docs/platform.md, "Ids").
-use Rattle.std.specs.Prelude.{◌≡◌, ℕ, ◌+◌, ◌*◌, ◌≤◌, ◌⊎◌, cond, leb, ◌&&◌, List, [], ◌∷◌, ◌++◌, length, take, drop, slice_index, codes, All}
+use Rattle.std.specs.Prelude.{◌≡◌, ℕ, ◌+◌, ◌*◌, ◌≤◌, ◌⊎◌, Bool, cond, leb, eqb, ◌&&◌, ◌||◌, bytes_eq, List, [], ◌∷◌, ◌++◌, length, take, drop, slice_index, codes, All, Option, None, Some}
+use Rattle.std.specs.List.{list_all}
 
 -- a letter or a digit of ASCII
 abbrev pub IsAlphanumeric : ℕ → Type 0
@@ -32,3 +33,15 @@ long_id id = id ++ checks id
 -- the text is an Id, with its right check characters or without any
 abbrev pub Names : List ℕ → List ℕ → Type 0
 Names text id = IsId id × ((text ≡ id) ⊎ (text ≡ long_id id))
+
+-- ---- the same by tests, for definitions that compute
+
+abbrev pub is_alphanumeric : ℕ → Bool
+is_alphanumeric c = (leb 48 c && leb c 57) || ((leb 65 c && leb c 90) || (leb 97 c && leb c 122))
+
+abbrev pub is_id : List ℕ → Bool
+is_id bs = eqb (length bs) 15 && list_all is_alphanumeric bs
+
+-- the Id that a text names
+abbrev pub id_value : List ℕ → Option (List ℕ)
+id_value bs = cond (is_id bs) (Some bs) (cond (is_id (take 15 bs) && bytes_eq bs (long_id (take 15 bs))) (Some (take 15 bs)) None)

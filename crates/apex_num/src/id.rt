@@ -1,7 +1,7 @@
 // Ids and their check characters.
 
 ghost use Rattle.std.specs.Prelude.{◌≡◌, ◌<◌, ◌≤◌, ℕ, List, length, MatchBool, MatchOption, All};
-ghost use Rattle.apex_num.specs.Ids.{IsId, IsAlphanumeric, Names, capital, check, checks, long_id};
+ghost use Rattle.apex_num.specs.Ids.{IsId, IsAlphanumeric, Names, capital, check, checks, id_value, long_id};
 
 use std::marker::Model;
 
@@ -116,7 +116,8 @@ fn checked_id(text: &[u8]) -> Option<Id>
 /// The Id that a text names: 15 letters or digits, or 18 of which the last three are the right check characters.
 /// `None` exactly where it is neither.
 pub fn read_id(text: &[u8]) -> Option<Id>
-    ensures { MatchOption result ((id : List ℕ) → Names text.now id → ⊥) (λ id. Names text.now id) }
+    ensures named { MatchOption result ((id : List ℕ) → Names text.now id → ⊥) (λ id. Names text.now id) }
+    ensures value { result ≡ id_value text.now }
 {
     match text.len() {
         15 => short_id(text),

@@ -1,7 +1,7 @@
 // Text that is shared.
 
-ghost use Rattle.std.specs.Prelude.{◌≡◌, ◌↔◌, IsTrue, IfOk, IfNone, IfSome, OnOk, string_bytes};
-ghost use Rattle.std.specs.Str.{IsUtf8};
+ghost use Rattle.std.specs.Prelude.{◌≡◌, ◌<◌, ◌^◌, length, chars, IfOk, IfNone, IfSome, MatchBool, string_bytes};
+ghost use Rattle.std.specs.Str.{IsUtf8, IsAscii, IsNotAscii};
 ghost use Rattle.std.specs.Cmp as Cmp;
 ghost use Rattle.std.specs.Hash as fed;
 ghost use Rattle.std.specs.Cmp.Rules.{comparing, hashing};
@@ -17,22 +17,23 @@ use std::sync::Arc;
 /// Memory was refused.
 pub type NoMemory = AllocError;
 
-/// A text: bytes that are UTF-8, which contracts see as the list of them. It never changes, and its copies
-/// share the bytes.
+/// A text: bytes that are UTF-8, which contracts see as the list of them. It never changes, its copies share the
+/// bytes, and it knows whether they are all ASCII.
 #[derive(Debug, Drop)]
 pub struct Text {
     shared: Arc<Vec<u8>>,
+    ascii: bool,
 }
 
 impl Model for Text {
-    ghost use Rattle.std.specs.Prelude.{ℕ, List};
-    ghost use Rattle.std.specs.Str.{IsUtf8};
+    ghost use Rattle.std.specs.Prelude.{ℕ, List, MatchBool};
+    ghost use Rattle.std.specs.Str.{IsUtf8, IsAscii, IsNotAscii};
 
     ghost Value = { List ℕ };
 
     ghost view = { λ t. t.shared.value.items };
 
-    ghost invariant = { λ t. IsUtf8 t.shared.value.items };
+    ghost invariant = { λ t. IsUtf8 t.shared.value.items × MatchBool t.ascii (IsAscii t.shared.value.items) (IsNotAscii t.shared.value.items) };
 }
 
 impl Text {
@@ -44,8 +45,10 @@ impl Text {
         if str::from_utf8(&bytes).is_err() {
             return Ok(None);
         }
+        let ascii = bytes.is_ascii();
         Ok(Some(Text {
             shared: Arc::new(alloc, bytes)?,
+            ascii,
         }))
     }
 
@@ -56,6 +59,7 @@ impl Text {
         let bytes = Vec::from_slice(alloc, text.as_bytes())?;
         Ok(Text {
             shared: Arc::new(alloc, bytes)?,
+            ascii: text.is_ascii(),
         })
     }
 
@@ -64,9 +68,10 @@ impl Text {
         ensures { IfOk result (λ t. t ≡ string_bytes text) }
     {
         // A string slice tells the proof that its bytes are UTF-8.
-        let _told = text.as_str();
+        let ascii = text.as_str().is_ascii();
         Ok(Text {
             shared: Arc::new(alloc, text.into_bytes())?,
+            ascii,
         })
     }
 
@@ -85,12 +90,31 @@ impl Text {
         self.shared.as_slice()
     }
 
+    /// Whether all bytes are ASCII, so that each is a scalar of its own. Nothing is looked at again.
+    pub fn is_ascii(&self) -> bool
+        ensures { MatchBool result (IsAscii self.now) (IsNotAscii self.now) }
+    {
+        self.ascii
+    }
+
+    /// How many scalars the text has. One that is ASCII isn't looked at again.
+    pub fn length(&self) -> usize
+        ensures value { result ≡ length (chars self.now) }
+        ensures small { result < 2 ^ 63 }
+    {
+        if self.ascii {
+            return self.shared.len();
+        }
+        self.as_str().chars().count()
+    }
+
     /// An equal text, which shares the bytes. It fails only where 2^63 copies are alive.
     pub fn copy(&self) -> Result<Text, NoMemory>
         ensures { IfOk result (λ t. t ≡ self.now) }
     {
         Ok(Text {
             shared: Arc::try_clone(&self.shared)?,
+            ascii: self.ascii,
         })
     }
 }
@@ -119,34 +143,5 @@ impl Hash for Text {
     fn hash<H: Hasher>(&self, state: &mut H) {
         state.write(self.bytes());
         state.write_u8(255);
-    }
-}
-
-#[cfg(test)]
-mod tests {
-    use super::*;
-    use std::test::Fail;
-
-    #[test]
-    fn texts(rt: HostRuntime) -> Result<(), Fail> {
-        let rows: [(&[u8], bool); 5] = [
-            (b"", true),
-            (b"abc", true),
-            (&[195, 169], true),
-            (&[195], false),
-            (&[255], false),
-        ];
-        for (bytes, fine) in rows {
-            let text = Text::of(rt.alloc(), Vec::from_slice(rt.alloc(), bytes)?)?;
-            assert_eq!(rt; text.is_some(), fine);
-            if let Some(text) = text {
-                assert_eq!(rt; text.bytes(), bytes);
-                assert_eq!(rt; text.as_str().as_bytes(), bytes);
-                assert!(rt; text.copy()? == text);
-                let again = String::from_str(rt.alloc(), text.as_str())?;
-                assert!(rt; Text::from_string(rt.alloc(), again)? == text);
-            }
-        }
-        Ok(())
     }
 }

@@ -1,4 +1,4 @@
-mod Pairs
-mod Looks
 pub mod Moving
+pub mod Begins
+mod Tables
 mod Rooms

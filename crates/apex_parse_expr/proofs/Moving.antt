@@ -10,8 +10,8 @@ use Rattle.token_grammar.specs.Tokens.{open_sign, refuse_here}
 use Rattle.token_grammar.specs.declared.fault.ParseWord.TheVariants.{TooDeep}
 use Rattle.token_grammar.proofs.Moves.{Moves}
 use Rattle.apex_parse_expr.specs.declared.part.Part.{Part}
-use Rattle.apex_parse_expr.specs.Types.{type}
-use Rattle.apex_parse_expr.specs.Exprs.{expr, unary, unary_with, expr_with, deeper_query, open_prefix, part}
+use Rattle.apex_parse_leaf.specs.Leaves.{open_prefix}
+use Rattle.apex_parse_expr.specs.Exprs.{expr, unary, unary_with, expr_with, deeper_query, part}
 
 pub open_moves : (s : Sign) (room : ℕ) → Moves (open_sign s room)
 open_moves s zero = inr (λ i. inl tt)
@@ -19,10 +19,6 @@ open_moves s (suc room) = inl tt
 
 pub part_moves : (room : ℕ) (e : Rule Expr) → Moves (part room e)
 part_moves room e = (inl tt, inr (λ i. inl (open_moves OpenBracket room)))
-
-pub type_moves : (room : ℕ) → Moves (type room)
-type_moves zero = inr (λ i. inl tt)
-type_moves (suc room) = inr (λ i. inl tt)
 
 prefix_moves : (room : ℕ) → Moves (open_prefix room)
 prefix_moves zero = inr (λ i. inl tt)

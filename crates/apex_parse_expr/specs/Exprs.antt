@@ -1,77 +1,36 @@
 -- The grammar of expressions (docs/language.md, "Expressions"), in the notation of token_grammar. Queries in brackets
--- are those of soql_parse, with expressions for their binds.
-use Rattle.std.specs.Prelude.{◌≡◌, ◌⊎◌, ◌+◌, ◌||◌, leb, ℕ, zero, suc, List, [], ◌∷◌, ◌++◌, Bool, true, false, Option, Some, None, IsSome, bytes_eq, codes, slice_get}
-use Rattle.apex_text.specs.Fold.{folded}
+-- are those of soql_parse, with expressions for their binds; types and what is one token are those of apex_parse_leaf.
+use Rattle.std.specs.Prelude.{◌++◌, leb, ℕ, zero, suc, List, [], ◌∷◌, Bool, true, false}
 use Rattle.apex_text.specs.declared.place.Span.{Span}
-use Rattle.apex_lexer.specs.declared.token.Token.{Token}
-use Rattle.apex_lexer.specs.declared.token.Keyword.{Keyword}
-use Rattle.apex_lexer.specs.declared.token.Keyword.TheVariants.{True, False, Null, This as ThisWord, Super as SuperWord, New as NewWord}
-use Rattle.apex_lexer.specs.declared.token.Sign.{Sign}
-use Rattle.apex_lexer.specs.declared.token.Sign.TheVariants.{Assign as AssignSign, Equal as EqualSign, Differs as DiffersSign, AtMost as AtMostSign, AtLeast as AtLeastSign, Less as LessSign, More as MoreSign, And as AndSign, Or as OrSign, Increment as IncrementSign, Decrement as DecrementSign, AddTo, SubtractFrom, MultiplyBy, DivideBy, Arrow, Plus as PlusSign, Minus as MinusSign, Star, Slash, Not as NotSign, Question, Colon, Dot, Comma, OpenParen, CloseParen, OpenBracket, CloseBracket, OpenBrace, CloseBrace}
-use Rattle.apex_lexer.specs.declared.token.TokenKind.{TokenKind}
-use Rattle.apex_lexer.specs.declared.token.TokenKind.TheVariants.{Name as NameToken, Keyword as IsWord, Sign as IsSign, Integer as IntegerToken, Long as LongToken, Decimal as DecimalToken, Quoted}
+use Rattle.apex_lexer.specs.declared.token.Keyword.TheVariants.{New as NewWord}
+use Rattle.apex_lexer.specs.declared.token.Sign.TheVariants.{Assign as AssignSign, Arrow, Question, Colon, Dot, Comma, OpenParen, CloseParen, OpenBracket, CloseBracket, OpenBrace, CloseBrace}
 use Rattle.apex_syntax.specs.declared.word.Word.{Word}
 use Rattle.apex_syntax.specs.declared.query.BindTree.{BindTree}
 use Rattle.apex_syntax.specs.declared.query.BindTree.TheVariants.{Expr as Bound}
-use Rattle.apex_syntax.specs.declared.query.NumberTree.{NumberTree}
-use Rattle.apex_syntax.specs.declared.query.NumberTree.TheVariants.{Integer, Long, Decimal}
 use Rattle.apex_syntax.specs.declared.query.QueryTree.{QueryTree}
 use Rattle.apex_syntax.specs.declared.expr.TypeTree.{TypeTree}
-use Rattle.apex_syntax.specs.declared.expr.Literal.TheVariants.{Number, Text, Bool as Truth, Null as Nothing}
-use Rattle.apex_syntax.specs.declared.expr.PrefixOp.{PrefixOp}
-use Rattle.apex_syntax.specs.declared.expr.PrefixOp.TheVariants.{Not, Minus as Negative, Increment as Before, Decrement as BeforeDown}
-use Rattle.apex_syntax.specs.declared.expr.BinaryOp.{BinaryOp}
-use Rattle.apex_syntax.specs.declared.expr.BinaryOp.TheVariants.{Or, And, Equal, Differs, Less, AtMost, More, AtLeast, Plus, Minus, Times, Over}
 use Rattle.apex_syntax.specs.declared.expr.AssignOp.{AssignOp}
-use Rattle.apex_syntax.specs.declared.expr.AssignOp.TheVariants.{Assign as Sets, Add, Subtract, Multiply, Divide}
-use Rattle.apex_syntax.specs.declared.expr.StepOp.TheVariants.{Increment, Decrement}
 use Rattle.apex_syntax.specs.declared.expr.Expr.{Expr}
-use Rattle.apex_syntax.specs.declared.expr.Expr.TheVariants.{Literal, This, Super, Name, Call, Paren, New, Query, Postfix, Prefix, Cast, Chain, Conditional, Assign}
+use Rattle.apex_syntax.specs.declared.expr.Expr.TheVariants.{Name, Call, Paren, New, Query, Postfix, Prefix, Cast, Chain, Conditional, Assign}
 use Rattle.apex_syntax.specs.declared.expr.Operand.{Operand}
 use Rattle.apex_syntax.specs.declared.expr.PostfixPart.{PostfixPart}
-use Rattle.apex_syntax.specs.declared.expr.PostfixPart.TheVariants.{Field, Call as CallPart, Index, Step}
+use Rattle.apex_syntax.specs.declared.expr.PostfixPart.TheVariants.{Field, Call as CallPart, Index}
 use Rattle.apex_syntax.specs.declared.expr.NewPart.{NewPart}
 use Rattle.apex_syntax.specs.declared.expr.NewPart.TheVariants.{Args, Fields, Items}
 use Rattle.apex_syntax.specs.declared.expr.FieldValue.{FieldValue}
 use Rattle.apex_syntax.specs.declared.expr.NewItem.{NewItem}
 use Rattle.token_grammar.specs.declared.fault.ParseWord.TheVariants.{TooDeep}
 use Rattle.token_grammar.specs.declared.read.Names.TheVariants.{InCode, AllWords}
-use Rattle.token_grammar.specs.Notation.{Rule, Give, Refuse, Here, Since, Take, Then, Choose, Many, Test, kind_at}
-use Rattle.token_grammar.specs.Tokens.{sign, word, name, next_sign, next_word, next_name, is_name, open_sign, optional, refuse_here}
-use Rattle.token_grammar.specs.Literals.{literal_bytes}
+use Rattle.token_grammar.specs.Notation.{Rule, Give, Refuse, Here, Since, Then, Choose, Many}
+use Rattle.token_grammar.specs.Tokens.{sign, word, name, next_sign, next_word, next_name, open_sign, optional, refuse_here}
 use Rattle.soql_parse.specs.Queries.{query}
+use Rattle.apex_parse_leaf.specs.declared.level.Level.{Level}
+use Rattle.apex_parse_leaf.specs.declared.level.Level.TheVariants.{Or as OrLevel, And as AndLevel, Equal as EqualLevel, Order as OrderLevel, Sum as SumLevel, Product as ProductLevel}
+use Rattle.apex_parse_leaf.specs.Types.{type, deeper_type}
+use Rattle.apex_parse_leaf.specs.Casts.{next_cast}
+use Rattle.apex_parse_leaf.specs.Leaves.{simple, step, next_step, next_part, next_fields, next_prefix, open_prefix, op, next_op, open_assign, next_assign}
 use Rattle.apex_parse_expr.specs.declared.part.Part.{Part}
 use Rattle.apex_parse_expr.specs.declared.part.Branches.{Branches}
-use Rattle.apex_parse_expr.specs.declared.part.Level.{Level}
-use Rattle.apex_parse_expr.specs.declared.part.Level.TheVariants.{Or as OrLevel, And as AndLevel, Equal as EqualLevel, Order as OrderLevel, Sum as SumLevel, Product as ProductLevel}
-use Rattle.apex_parse_expr.specs.Types.{type, deeper_type, IsType, IsDeepType}
-
--- ---- tokens that are expressions
-
-abbrev pub number_expr : Span → NumberTree → Option Expr
-number_expr s n = Some (Literal s (Number n))
-
-abbrev pub word_expr : Span → Keyword → Option Expr
-word_expr s True = Some (Literal s (Truth true))
-word_expr s False = Some (Literal s (Truth false))
-word_expr s Null = Some (Literal s Nothing)
-word_expr s ThisWord = Some (This s)
-word_expr s SuperWord = Some (Super s)
-word_expr s _ = None
-
-abbrev pub simple_kind : Span → List ℕ → TokenKind → Option Expr
-simple_kind s text (IntegerToken n) = number_expr s (Integer n)
-simple_kind s text (LongToken n) = number_expr s (Long n)
-simple_kind s text (DecimalToken n) = number_expr s (Decimal n)
-simple_kind s text Quoted = Some (Literal s (Text (literal_bytes text)))
-simple_kind s text (IsWord k) = word_expr s k
-simple_kind s text _ = None
-
-abbrev pub simple_of : Token → Option Expr
-simple_of t = simple_kind t.span t.text.now t.kind
-
-abbrev pub simple : Rule Expr
-simple = Take simple_of
 
 -- ---- lists of expressions; `e` reads one in a form that is opened
 
@@ -144,11 +103,6 @@ items room e =
 abbrev pub new_args : ℕ → Rule Expr → Rule NewPart
 new_args room e = Then Here (λ i. Then (args room e) (λ xs. Then (Since i) (λ s. Give (Args s xs))))
 
--- a parenthesis, a name and `=`
-abbrev pub next_fields : Test
-next_fields tokens at =
-    (kind_at tokens at ≡ IsSign OpenParen) × (is_name InCode (kind_at tokens (at + 1)) ≡ true) × (kind_at tokens (at + 2) ≡ IsSign AssignSign)
-
 abbrev pub new_part : ℕ → Rule Expr → Rule NewPart
 new_part room e = Choose next_fields (fields room e) (Choose (next_sign OpenBrace) (items room e) (new_args room e))
 
@@ -184,35 +138,8 @@ index_part room e =
 abbrev pub part : ℕ → Rule Expr → Rule PostfixPart
 part room e = Choose (next_sign Dot) (member_part room e) (index_part room e)
 
-abbrev pub begins_part : TokenKind → Bool
-begins_part (IsSign Dot) = true
-begins_part (IsSign OpenBracket) = true
-begins_part _ = false
-
-abbrev pub next_part : Test
-next_part tokens at = begins_part (kind_at tokens at) ≡ true
-
 abbrev pub parts : ℕ → Rule Expr → Rule (List PostfixPart)
 parts room e = Many next_part (part room e)
-
-abbrev pub step_kind : Span → TokenKind → Option PostfixPart
-step_kind s (IsSign IncrementSign) = Some (Step s Increment)
-step_kind s (IsSign DecrementSign) = Some (Step s Decrement)
-step_kind s _ = None
-
-abbrev pub step_of : Token → Option PostfixPart
-step_of t = step_kind t.span t.kind
-
-abbrev pub is_step : TokenKind → Bool
-is_step (IsSign IncrementSign) = true
-is_step (IsSign DecrementSign) = true
-is_step _ = false
-
-abbrev pub next_step : Test
-next_step tokens at = is_step (kind_at tokens at) ≡ true
-
-abbrev pub step : Rule PostfixPart
-step = Take step_of
 
 -- what stands behind the parts, with the parts
 abbrev pub stepped : List PostfixPart → Rule (List PostfixPart)
@@ -237,110 +164,18 @@ bind_with room e = Then Here (λ i. Then (sign Colon) (λ _. Then (bound room e)
 
 -- ---- prefix operators and casts; `u` reads an operand in a form that is opened
 
-abbrev pub prefix_kind : TokenKind → Option PrefixOp
-prefix_kind (IsSign NotSign) = Some Not
-prefix_kind (IsSign MinusSign) = Some Negative
-prefix_kind (IsSign IncrementSign) = Some Before
-prefix_kind (IsSign DecrementSign) = Some BeforeDown
-prefix_kind _ = None
-
-abbrev pub prefix_of : Token → Option PrefixOp
-prefix_of t = prefix_kind t.kind
-
-abbrev pub is_prefix : TokenKind → Bool
-is_prefix (IsSign NotSign) = true
-is_prefix (IsSign MinusSign) = true
-is_prefix (IsSign IncrementSign) = true
-is_prefix (IsSign DecrementSign) = true
-is_prefix _ = false
-
-abbrev pub next_prefix : Test
-next_prefix tokens at = is_prefix (kind_at tokens at) ≡ true
-
-abbrev pub prefix_op : Rule PrefixOp
-prefix_op = Take prefix_of
-
--- the operator, where a form may be opened
-abbrev pub open_prefix : ℕ → Rule PrefixOp
-open_prefix zero = Then Here (λ i. Then prefix_op (λ o. Refuse TooDeep i))
-open_prefix (suc room) = prefix_op
+-- what can't be the target of an assignment
+abbrev pub closed : Expr → Part
+closed x = record { tree = x; target = false }
 
 abbrev pub prefixed : ℕ → Rule Part → Rule Part
 prefixed room u =
-    Then Here (λ i. Then (open_prefix room) (λ o. Then u (λ x. Then (Since i) (λ s. Give (record { tree = Prefix s o x.tree; target = false })))))
-
--- what a cast's operand may begin with, where its type is no primitive one
-abbrev pub begins_operand_word : Keyword → Bool
-begins_operand_word True = true
-begins_operand_word False = true
-begins_operand_word Null = true
-begins_operand_word ThisWord = true
-begins_operand_word SuperWord = true
-begins_operand_word NewWord = true
-begins_operand_word k = is_name InCode (IsWord k)
-
-abbrev pub begins_operand : TokenKind → Bool
-begins_operand NameToken = true
-begins_operand (IntegerToken n) = true
-begins_operand (LongToken n) = true
-begins_operand (DecimalToken n) = true
-begins_operand Quoted = true
-begins_operand (IsWord k) = begins_operand_word k
-begins_operand _ = false
-
--- the same text but for the case of its letters
-abbrev pub is_folded : List ℕ → List ℕ → Bool
-is_folded text word = bytes_eq (folded text) (folded word)
-
--- the names of the primitive types
-abbrev pub is_primitive : List ℕ → Bool
-is_primitive x =
-    is_folded x (codes "boolean") || (is_folded x (codes "integer") || (is_folded x (codes "long") || (is_folded x (codes "decimal")
-    || (is_folded x (codes "string") || (is_folded x (codes "id") || (is_folded x (codes "date") || is_folded x (codes "datetime")))))))
-
-abbrev pub is_system : List ℕ → Bool
-is_system x = is_folded x (codes "system")
-
--- whether a test holds of the text of a token
-abbrev pub named_so : (List ℕ → Bool) → Option Token → Bool
-named_so test None = false
-named_so test (Some t) = test t.text.now
-
--- a primitive type alone and a closing parenthesis
-abbrev pub Primitive : List Token → ℕ → Type 0
-Primitive tokens at = (named_so is_primitive (slice_get tokens at) ≡ true) × (kind_at tokens (at + 1) ≡ IsSign CloseParen)
-
--- `System` and a dot before that
-abbrev pub SystemPrimitive : List Token → ℕ → Type 0
-SystemPrimitive tokens at =
-    (named_so is_system (slice_get tokens at) ≡ true) × (kind_at tokens (at + 1) ≡ IsSign Dot)
-    × (named_so is_primitive (slice_get tokens (at + 2)) ≡ true) × (kind_at tokens (at + 3) ≡ IsSign CloseParen)
-
--- a closing parenthesis and what may be cast
-abbrev pub CastEnd : List Token → ℕ → Type 0
-CastEnd tokens at = (kind_at tokens at ≡ IsSign CloseParen) × (begins_operand (kind_at tokens (at + 1)) ≡ true)
-
--- a type and that
-pub record OtherCast (tokens : List Token) (room at : ℕ) : Type 0 where
-  pub end : ℕ
-  pub is_type : IsType tokens room at end
-  pub ends : CastEnd tokens end
-
--- a type that nests too deep counts as one that is cast to
-abbrev pub TypeCast : List Token → ℕ → ℕ → Type 0
-TypeCast tokens room at = OtherCast tokens room at ⊎ IsDeepType tokens room at
-
--- what in a parenthesis makes a cast of it
-abbrev pub IsCastType : List Token → ℕ → ℕ → Type 0
-IsCastType tokens room at = Primitive tokens at ⊎ (SystemPrimitive tokens at ⊎ TypeCast tokens room at)
-
-abbrev pub next_cast : ℕ → Test
-next_cast room tokens at = (kind_at tokens at ≡ IsSign OpenParen) × IsCastType tokens room (at + 1)
+    Then Here (λ i. Then (open_prefix room) (λ o. Then u (λ x. Then (Since i) (λ s. Give (closed (Prefix s o x.tree))))))
 
 abbrev pub cast : ℕ → Rule Part → Rule TypeTree → Rule Part
 cast room u t =
     Then Here (λ i. Then (open_sign OpenParen room) (λ _. Then t (λ ty. Then (sign CloseParen) (λ _. Then u (λ x. Then (Since i) (λ s.
-    Give (record { tree = Cast s ty x.tree; target = false })))))))
+    Give (closed (Cast s ty x.tree))))))))
 
 abbrev pub target : ℕ → Rule Expr → Rule QueryTree → Rule TypeTree → Rule Part
 target room e q t = Then (postfix room e q t) (λ x. Give (record { tree = x; target = true }))
@@ -348,37 +183,9 @@ target room e q t = Then (postfix room e q t) (λ x. Give (record { tree = x; ta
 -- an operand: `e`, `q` and `u` read in a form that is opened
 abbrev pub unary_with : ℕ → Rule Expr → Rule QueryTree → Rule Part → Rule Part
 unary_with room e q u =
-    Choose next_prefix (prefixed room u) (Choose (next_cast room) (cast room u (deeper_type room)) (target room e q (type room)))
+    Choose next_prefix (prefixed room u) (Choose next_cast (cast room u (deeper_type room)) (target room e q (type room)))
 
 -- ---- binary operators
-
-abbrev pub sign_op : Level → Sign → Option BinaryOp
-sign_op OrLevel OrSign = Some Or
-sign_op AndLevel AndSign = Some And
-sign_op EqualLevel EqualSign = Some Equal
-sign_op EqualLevel DiffersSign = Some Differs
-sign_op OrderLevel LessSign = Some Less
-sign_op OrderLevel AtMostSign = Some AtMost
-sign_op OrderLevel MoreSign = Some More
-sign_op OrderLevel AtLeastSign = Some AtLeast
-sign_op SumLevel PlusSign = Some Plus
-sign_op SumLevel MinusSign = Some Minus
-sign_op ProductLevel Star = Some Times
-sign_op ProductLevel Slash = Some Over
-sign_op _ _ = None
-
-abbrev pub level_op : Level → TokenKind → Option BinaryOp
-level_op l (IsSign s) = sign_op l s
-level_op l _ = None
-
-abbrev pub op_of : Level → Token → Option BinaryOp
-op_of l t = level_op l t.kind
-
-abbrev pub op : Level → Rule BinaryOp
-op l = Take (op_of l)
-
-abbrev pub next_op : Level → Test
-next_op l tokens at = IsSome (level_op l (kind_at tokens at))
 
 abbrev pub link : Level → Rule Part → Rule Operand
 link l operand = Then (op l) (λ o. Then operand (λ r. Give (record { op = o; right = r.tree })))
@@ -452,30 +259,8 @@ abbrev pub conditional : ℕ → Rule Expr → ℕ → Expr → Rule Expr
 conditional room e i x =
     Then (open_sign Question room) (λ _. Then (branches e) (λ b. Then (Since i) (λ s. Give (Conditional s x b.one b.other))))
 
-abbrev pub assign_kind : TokenKind → Option AssignOp
-assign_kind (IsSign AssignSign) = Some Sets
-assign_kind (IsSign AddTo) = Some Add
-assign_kind (IsSign SubtractFrom) = Some Subtract
-assign_kind (IsSign MultiplyBy) = Some Multiply
-assign_kind (IsSign DivideBy) = Some Divide
-assign_kind _ = None
-
-abbrev pub assign_of : Token → Option AssignOp
-assign_of t = assign_kind t.kind
-
-abbrev pub assign_op : Rule AssignOp
-assign_op = Take assign_of
-
-abbrev pub open_assign : ℕ → Rule AssignOp
-open_assign zero = Then Here (λ i. Then assign_op (λ o. Refuse TooDeep i))
-open_assign (suc room) = assign_op
-
 abbrev pub assigned : ℕ → Rule Expr → ℕ → Expr → Rule Expr
 assigned room e i x = Then (open_assign room) (λ o. Then e (λ v. Then (Since i) (λ s. Give (Assign s x o v))))
-
--- an operator that assigns, behind what can be its target
-abbrev pub next_assign : Bool → Test
-next_assign target tokens at = IsSome (assign_kind (kind_at tokens at)) × (target ≡ true)
 
 -- what stands behind the first operand of an expression that began at a place
 abbrev pub expr_rest : ℕ → Rule Expr → ℕ → Part → Rule Expr

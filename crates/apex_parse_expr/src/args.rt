@@ -7,14 +7,14 @@ use apex_lexer::{Sign, Token};
 use apex_list::{Boxed, Items};
 use apex_syntax::{Expr, Word};
 use std::alloc::Global;
-use token_grammar::{Names, Stop, is_sign, name, open_sign, pass_sign, span_of};
+use token_grammar::{Names, Stop, add, boxed, is_sign, name, open_sign, pass_sign, span_of};
 
-fn comma_expr<E: Fn(usize) -> Result<(Expr, usize), Stop>>(
+fn comma_expr<E: Fn(usize) -> Result<(Boxed<Expr>, usize), Stop>>(
     tokens: &[Token],
     at: usize,
     room: usize,
     expr: &E,
-) -> Result<(Expr, usize), Stop>
+) -> Result<(Boxed<Expr>, usize), Stop>
     requires calls { E.IsAlwaysCallable expr.now }
     requires told { ReadsBy tokens.now (E.post expr.now) (grammar.deeper_expr room) }
     ensures { Told tokens.now (grammar.comma_expr (grammar.deeper_expr room)) at result }
@@ -24,12 +24,12 @@ fn comma_expr<E: Fn(usize) -> Result<(Expr, usize), Stop>>(
 }
 
 // The expressions behind a first one.
-fn more_exprs<E: Fn(usize) -> Result<(Expr, usize), Stop>>(
+fn more_exprs<E: Fn(usize) -> Result<(Boxed<Expr>, usize), Stop>>(
     alloc: Global,
     tokens: &[Token],
     at: usize,
     room: usize,
-    first: Expr,
+    first: Boxed<Expr>,
     expr: &E,
 ) -> Result<(Items<Expr>, usize), Stop>
     requires calls { E.IsAlwaysCallable expr.now }
@@ -37,17 +37,17 @@ fn more_exprs<E: Fn(usize) -> Result<(Expr, usize), Stop>>(
     ensures { Told tokens.now (grammar.more_exprs (grammar.deeper_expr room) first) at result }
 {
     let mut exprs = Items::new(alloc);
-    exprs.push(first)?;
+    add(&mut exprs, first)?;
     let mut end = at;
     'exprs: while is_sign(tokens, end, Sign::Comma) {
         let (next, after) = comma_expr(tokens, end, room, expr)?;
-        exprs.push(next)?;
+        add(&mut exprs, next)?;
         end = after;
     }
     Ok((exprs, end))
 }
 
-fn some_exprs<E: Fn(usize) -> Result<(Expr, usize), Stop>>(
+fn some_exprs<E: Fn(usize) -> Result<(Boxed<Expr>, usize), Stop>>(
     alloc: Global,
     tokens: &[Token],
     at: usize,
@@ -63,7 +63,7 @@ fn some_exprs<E: Fn(usize) -> Result<(Expr, usize), Stop>>(
 }
 
 // What stands between the parentheses.
-fn inner_args<E: Fn(usize) -> Result<(Expr, usize), Stop>>(
+fn inner_args<E: Fn(usize) -> Result<(Boxed<Expr>, usize), Stop>>(
     alloc: Global,
     tokens: &[Token],
     at: usize,
@@ -82,7 +82,7 @@ fn inner_args<E: Fn(usize) -> Result<(Expr, usize), Stop>>(
 }
 
 /// Arguments in their parentheses.
-pub fn args<E: Fn(usize) -> Result<(Expr, usize), Stop>>(
+pub fn args<E: Fn(usize) -> Result<(Boxed<Expr>, usize), Stop>>(
     alloc: Global,
     tokens: &[Token],
     at: usize,
@@ -100,12 +100,12 @@ pub fn args<E: Fn(usize) -> Result<(Expr, usize), Stop>>(
 }
 
 /// An expression in a form that is opened, where so many could be opened before that.
-pub fn inner<E: Fn(usize) -> Result<(Expr, usize), Stop>>(
+pub fn inner<E: Fn(usize) -> Result<(Boxed<Expr>, usize), Stop>>(
     tokens: &[Token],
     at: usize,
     room: usize,
     expr: &E,
-) -> Result<(Expr, usize), Stop>
+) -> Result<(Boxed<Expr>, usize), Stop>
     requires calls { E.IsAlwaysCallable expr.now }
     requires told { ReadsBy tokens.now (E.post expr.now) (grammar.deeper_expr room) }
     ensures { Told tokens.now (grammar.deeper_expr room) at result }
@@ -116,7 +116,7 @@ pub fn inner<E: Fn(usize) -> Result<(Expr, usize), Stop>>(
 }
 
 // Arguments behind a name that began at `start`.
-fn call<E: Fn(usize) -> Result<(Expr, usize), Stop>>(
+fn call<E: Fn(usize) -> Result<(Boxed<Expr>, usize), Stop>>(
     alloc: Global,
     tokens: &[Token],
     at: usize,
@@ -124,24 +124,24 @@ fn call<E: Fn(usize) -> Result<(Expr, usize), Stop>>(
     start: usize,
     word: Word,
     expr: &E,
-) -> Result<(Expr, usize), Stop>
+) -> Result<(Boxed<Expr>, usize), Stop>
     requires calls { E.IsAlwaysCallable expr.now }
     requires told { ReadsBy tokens.now (E.post expr.now) (grammar.deeper_expr room) }
     ensures { Told tokens.now (grammar.call room (grammar.deeper_expr room) start word) at result }
 {
     let (args, end) = args(alloc, tokens, at, room, expr)?;
     let span = span_of(tokens, start, end);
-    Ok((Expr::Call(span, word, args), end))
+    boxed(alloc, Expr::Call(span, word, args), end)
 }
 
 /// A name, or a name with arguments.
-pub fn named<E: Fn(usize) -> Result<(Expr, usize), Stop>>(
+pub fn named<E: Fn(usize) -> Result<(Boxed<Expr>, usize), Stop>>(
     alloc: Global,
     tokens: &[Token],
     at: usize,
     room: usize,
     expr: &E,
-) -> Result<(Expr, usize), Stop>
+) -> Result<(Boxed<Expr>, usize), Stop>
     requires calls { E.IsAlwaysCallable expr.now }
     requires told { ReadsBy tokens.now (E.post expr.now) (grammar.deeper_expr room) }
     ensures { Told tokens.now (grammar.named room (grammar.deeper_expr room)) at result }
@@ -150,18 +150,18 @@ pub fn named<E: Fn(usize) -> Result<(Expr, usize), Stop>>(
     if is_sign(tokens, behind, Sign::OpenParen) {
         call(alloc, tokens, behind, room, at, word, expr)
     } else {
-        Ok((Expr::Name(word), behind))
+        boxed(alloc, Expr::Name(word), behind)
     }
 }
 
 /// An expression in parentheses.
-pub fn paren<E: Fn(usize) -> Result<(Expr, usize), Stop>>(
+pub fn paren<E: Fn(usize) -> Result<(Boxed<Expr>, usize), Stop>>(
     alloc: Global,
     tokens: &[Token],
     at: usize,
     room: usize,
     expr: &E,
-) -> Result<(Expr, usize), Stop>
+) -> Result<(Boxed<Expr>, usize), Stop>
     requires calls { E.IsAlwaysCallable expr.now }
     requires told { ReadsBy tokens.now (E.post expr.now) (grammar.deeper_expr room) }
     ensures { Told tokens.now (grammar.paren room (grammar.deeper_expr room)) at result }
@@ -170,5 +170,5 @@ pub fn paren<E: Fn(usize) -> Result<(Expr, usize), Stop>>(
     let (tree, behind) = inner(tokens, behind, room, expr)?;
     let end = pass_sign(tokens, behind, Sign::CloseParen)?;
     let span = span_of(tokens, at, end);
-    Ok((Expr::Paren(span, Boxed::new(alloc, tree)?), end))
+    boxed(alloc, Expr::Paren(span, tree), end)
 }

@@ -2,13 +2,13 @@
 
 ghost use Rattle.std.specs.Prelude.{◌≡◌, IfOk};
 ghost use Rattle.token_grammar.specs.Readings.{Told, ReadsBy};
-ghost use Rattle.apex_parse_expr.specs.declared.part.Level.TheVariants as levels;
+ghost use Rattle.apex_parse_leaf.specs.declared.level.Level.TheVariants as levels;
 ghost use Rattle.apex_parse_expr.specs.Exprs as grammar;
 
-use crate::part::{Level, Part};
-use crate::single::{is_op, op};
+use crate::part::Part;
 use apex_lexer::Token;
 use apex_list::{Boxed, Items};
+use apex_parse_leaf::{Level, is_op, op};
 use apex_syntax::{Expr, Operand};
 use apex_text::Span;
 use std::alloc::{AllocError, Global};
@@ -42,7 +42,7 @@ fn chained(
     if links.is_empty() {
         return Ok(first);
     }
-    let tree = Expr::Chain(span, Boxed::new(alloc, first.tree)?, links);
+    let tree = Boxed::new(alloc, Expr::Chain(span, first.tree, links))?;
     Ok(Part {
         tree,
         target: false,

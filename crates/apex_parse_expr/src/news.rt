@@ -3,20 +3,19 @@
 ghost use Rattle.token_grammar.specs.Readings.{Told, ReadsBy};
 ghost use Rattle.token_grammar.specs.Tokens.{optional, next_sign};
 ghost use Rattle.apex_lexer.specs.declared.token.Sign.TheVariants as signs;
-ghost use Rattle.apex_parse_expr.specs.Types as types;
+ghost use Rattle.apex_parse_leaf.specs.Types as types;
 ghost use Rattle.apex_parse_expr.specs.Exprs as grammar;
 
 use crate::args::{args, inner};
-use crate::single::is_fields;
-use crate::types::type_tree;
 use apex_lexer::{Keyword, Sign, Token};
-use apex_list::Items;
+use apex_list::{Boxed, Items};
+use apex_parse_leaf::{is_fields, type_tree};
 use apex_syntax::{Expr, FieldValue, NewItem, NewPart};
 use std::alloc::Global;
-use token_grammar::{Names, Stop, is_sign, name, open_sign, pass_sign, pass_word, span_of};
+use token_grammar::{Names, Stop, boxed, is_sign, name, open_sign, pass_sign, pass_word, span_of};
 
 // A name, `=` and a value.
-fn field<E: Fn(usize) -> Result<(Expr, usize), Stop>>(
+fn field<E: Fn(usize) -> Result<(Boxed<Expr>, usize), Stop>>(
     alloc: Global,
     tokens: &[Token],
     at: usize,
@@ -33,7 +32,7 @@ fn field<E: Fn(usize) -> Result<(Expr, usize), Stop>>(
     Ok((FieldValue { field, value }, end))
 }
 
-fn comma_field<E: Fn(usize) -> Result<(Expr, usize), Stop>>(
+fn comma_field<E: Fn(usize) -> Result<(Boxed<Expr>, usize), Stop>>(
     alloc: Global,
     tokens: &[Token],
     at: usize,
@@ -49,7 +48,7 @@ fn comma_field<E: Fn(usize) -> Result<(Expr, usize), Stop>>(
 }
 
 // The fields behind a first one.
-fn more_fields<E: Fn(usize) -> Result<(Expr, usize), Stop>>(
+fn more_fields<E: Fn(usize) -> Result<(Boxed<Expr>, usize), Stop>>(
     alloc: Global,
     tokens: &[Token],
     at: usize,
@@ -73,7 +72,7 @@ fn more_fields<E: Fn(usize) -> Result<(Expr, usize), Stop>>(
 }
 
 // Fields with their values, in their parentheses.
-fn fields<E: Fn(usize) -> Result<(Expr, usize), Stop>>(
+fn fields<E: Fn(usize) -> Result<(Boxed<Expr>, usize), Stop>>(
     alloc: Global,
     tokens: &[Token],
     at: usize,
@@ -93,12 +92,12 @@ fn fields<E: Fn(usize) -> Result<(Expr, usize), Stop>>(
 }
 
 // The value behind `=>`, where that is written.
-fn arrow<E: Fn(usize) -> Result<(Expr, usize), Stop>>(
+fn arrow<E: Fn(usize) -> Result<(Boxed<Expr>, usize), Stop>>(
     tokens: &[Token],
     at: usize,
     room: usize,
     expr: &E,
-) -> Result<(Option<Expr>, usize), Stop>
+) -> Result<(Option<Boxed<Expr>>, usize), Stop>
     requires calls { E.IsAlwaysCallable expr.now }
     requires told { ReadsBy tokens.now (E.post expr.now) (grammar.deeper_expr room) }
     ensures { Told tokens.now (optional (next_sign signs.Arrow) (grammar.arrow_expr (grammar.deeper_expr room))) at result }
@@ -113,7 +112,7 @@ fn arrow<E: Fn(usize) -> Result<(Expr, usize), Stop>>(
 }
 
 // An item of a collection.
-fn item<E: Fn(usize) -> Result<(Expr, usize), Stop>>(
+fn item<E: Fn(usize) -> Result<(Boxed<Expr>, usize), Stop>>(
     tokens: &[Token],
     at: usize,
     room: usize,
@@ -128,7 +127,7 @@ fn item<E: Fn(usize) -> Result<(Expr, usize), Stop>>(
     Ok((NewItem { item, value }, end))
 }
 
-fn comma_item<E: Fn(usize) -> Result<(Expr, usize), Stop>>(
+fn comma_item<E: Fn(usize) -> Result<(Boxed<Expr>, usize), Stop>>(
     tokens: &[Token],
     at: usize,
     room: usize,
@@ -143,7 +142,7 @@ fn comma_item<E: Fn(usize) -> Result<(Expr, usize), Stop>>(
 }
 
 // The items behind a first one.
-fn more_items<E: Fn(usize) -> Result<(Expr, usize), Stop>>(
+fn more_items<E: Fn(usize) -> Result<(Boxed<Expr>, usize), Stop>>(
     alloc: Global,
     tokens: &[Token],
     at: usize,
@@ -166,7 +165,7 @@ fn more_items<E: Fn(usize) -> Result<(Expr, usize), Stop>>(
     Ok((items, end))
 }
 
-fn some_items<E: Fn(usize) -> Result<(Expr, usize), Stop>>(
+fn some_items<E: Fn(usize) -> Result<(Boxed<Expr>, usize), Stop>>(
     alloc: Global,
     tokens: &[Token],
     at: usize,
@@ -182,7 +181,7 @@ fn some_items<E: Fn(usize) -> Result<(Expr, usize), Stop>>(
 }
 
 // What stands between the braces.
-fn inner_items<E: Fn(usize) -> Result<(Expr, usize), Stop>>(
+fn inner_items<E: Fn(usize) -> Result<(Boxed<Expr>, usize), Stop>>(
     alloc: Global,
     tokens: &[Token],
     at: usize,
@@ -201,7 +200,7 @@ fn inner_items<E: Fn(usize) -> Result<(Expr, usize), Stop>>(
 }
 
 // Items in their braces.
-fn items<E: Fn(usize) -> Result<(Expr, usize), Stop>>(
+fn items<E: Fn(usize) -> Result<(Boxed<Expr>, usize), Stop>>(
     alloc: Global,
     tokens: &[Token],
     at: usize,
@@ -219,7 +218,7 @@ fn items<E: Fn(usize) -> Result<(Expr, usize), Stop>>(
     Ok((NewPart::Items(span, items), end))
 }
 
-fn new_args<E: Fn(usize) -> Result<(Expr, usize), Stop>>(
+fn new_args<E: Fn(usize) -> Result<(Boxed<Expr>, usize), Stop>>(
     alloc: Global,
     tokens: &[Token],
     at: usize,
@@ -235,7 +234,7 @@ fn new_args<E: Fn(usize) -> Result<(Expr, usize), Stop>>(
 }
 
 // What stands behind the type.
-fn new_part<E: Fn(usize) -> Result<(Expr, usize), Stop>>(
+fn new_part<E: Fn(usize) -> Result<(Boxed<Expr>, usize), Stop>>(
     alloc: Global,
     tokens: &[Token],
     at: usize,
@@ -256,13 +255,13 @@ fn new_part<E: Fn(usize) -> Result<(Expr, usize), Stop>>(
 }
 
 /// `new`, a type, and what stands behind it.
-pub fn new_expr<E: Fn(usize) -> Result<(Expr, usize), Stop>>(
+pub fn new_expr<E: Fn(usize) -> Result<(Boxed<Expr>, usize), Stop>>(
     alloc: Global,
     tokens: &[Token],
     at: usize,
     room: usize,
     expr: &E,
-) -> Result<(Expr, usize), Stop>
+) -> Result<(Boxed<Expr>, usize), Stop>
     requires calls { E.IsAlwaysCallable expr.now }
     requires told { ReadsBy tokens.now (E.post expr.now) (grammar.deeper_expr room) }
     ensures { Told tokens.now (grammar.new_expr room (grammar.deeper_expr room) (types.type room)) at result }
@@ -271,5 +270,5 @@ pub fn new_expr<E: Fn(usize) -> Result<(Expr, usize), Stop>>(
     let (kind, behind) = type_tree(alloc, tokens, behind, room)?;
     let (part, end) = new_part(alloc, tokens, behind, room, expr)?;
     let span = span_of(tokens, at, end);
-    Ok((Expr::New(span, kind, part), end))
+    boxed(alloc, Expr::New(span, kind, part), end)
 }

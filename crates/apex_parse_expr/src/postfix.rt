@@ -1,31 +1,32 @@
 // Primary and postfix expressions. `expr` and `query` read an expression and a query in a form that is opened.
 
 ghost use Rattle.std.specs.Prelude.{◌≡◌, MatchBool, IfOk};
+ghost use Rattle.token_grammar.specs.Notation.{seen};
 ghost use Rattle.token_grammar.specs.Readings.{Told, ReadsBy};
 ghost use Rattle.token_grammar.specs.Tokens.{next_name};
 ghost use Rattle.token_grammar.specs.declared.read.Names.TheVariants as names;
-ghost use Rattle.apex_parse_expr.specs.Types as types;
+ghost use Rattle.apex_parse_leaf.specs.Types as types;
 ghost use Rattle.apex_parse_expr.specs.Exprs as grammar;
 
 use crate::args::{args, inner, named, paren};
 use crate::news::new_expr;
-use crate::single::{is_part, is_step, simple, step};
 use apex_lexer::{Keyword, Sign, Token};
 use apex_list::{Boxed, Items};
+use apex_parse_leaf::{is_part, is_step, simple, step};
 use apex_syntax::{BindTree, Expr, PostfixPart, QueryTree, Word};
 use apex_text::Span;
 use std::alloc::{AllocError, Global};
 use token_grammar::{
-    Names, Stop, is_name, is_sign, is_word, kind_at, name, open_sign, pass_sign, span_of,
+    Names, Stop, boxed, is_name, is_sign, is_word, kind_at, name, open_sign, pass_sign, span_of,
 };
 
 // A query in a form that is opened, where so many could be opened before that.
-fn inner_query<Q: Fn(usize) -> Result<(QueryTree, usize), Stop>>(
+fn inner_query<Q: Fn(usize) -> Result<(Boxed<QueryTree>, usize), Stop>>(
     tokens: &[Token],
     at: usize,
     room: usize,
     query: &Q,
-) -> Result<(QueryTree, usize), Stop>
+) -> Result<(Boxed<QueryTree>, usize), Stop>
     requires calls { Q.IsAlwaysCallable query.now }
     requires told { ReadsBy tokens.now (Q.post query.now) (grammar.deeper_query room) }
     ensures { Told tokens.now (grammar.deeper_query room) at result }
@@ -36,13 +37,13 @@ fn inner_query<Q: Fn(usize) -> Result<(QueryTree, usize), Stop>>(
 }
 
 // A query in brackets.
-fn bracketed<Q: Fn(usize) -> Result<(QueryTree, usize), Stop>>(
+fn bracketed<Q: Fn(usize) -> Result<(Boxed<QueryTree>, usize), Stop>>(
     alloc: Global,
     tokens: &[Token],
     at: usize,
     room: usize,
     query: &Q,
-) -> Result<(Expr, usize), Stop>
+) -> Result<(Boxed<Expr>, usize), Stop>
     requires calls { Q.IsAlwaysCallable query.now }
     requires told { ReadsBy tokens.now (Q.post query.now) (grammar.deeper_query room) }
     ensures { Told tokens.now (grammar.bracketed room (grammar.deeper_query room)) at result }
@@ -51,19 +52,19 @@ fn bracketed<Q: Fn(usize) -> Result<(QueryTree, usize), Stop>>(
     let (tree, behind) = inner_query(tokens, behind, room, query)?;
     let end = pass_sign(tokens, behind, Sign::CloseBracket)?;
     let span = span_of(tokens, at, end);
-    Ok((Expr::Query(span, Boxed::new(alloc, tree)?), end))
+    boxed(alloc, Expr::Query(span, tree), end)
 }
 
 // Whether a name stands here.
 fn is_named(tokens: &[Token], at: usize) -> bool
-    ensures { MatchBool result (next_name names.InCode tokens.now at) (next_name names.InCode tokens.now at → ⊥) }
+    ensures { MatchBool result (next_name names.InCode (seen tokens.now) at) (next_name names.InCode (seen tokens.now) at → ⊥) }
 {
     is_name(Names::InCode, kind_at(tokens, at))
 }
 
 fn primary<
-    E: Fn(usize) -> Result<(Expr, usize), Stop>,
-    Q: Fn(usize) -> Result<(QueryTree, usize), Stop>,
+    E: Fn(usize) -> Result<(Boxed<Expr>, usize), Stop>,
+    Q: Fn(usize) -> Result<(Boxed<QueryTree>, usize), Stop>,
 >(
     alloc: Global,
     tokens: &[Token],
@@ -71,7 +72,7 @@ fn primary<
     room: usize,
     expr: &E,
     query: &Q,
-) -> Result<(Expr, usize), Stop>
+) -> Result<(Boxed<Expr>, usize), Stop>
     requires calls { E.IsAlwaysCallable expr.now }
     requires told { ReadsBy tokens.now (E.post expr.now) (grammar.deeper_expr room) }
     requires query_calls { Q.IsAlwaysCallable query.now }
@@ -92,7 +93,7 @@ fn primary<
 }
 
 // Arguments behind a member's name, which began at `start`.
-fn call_part<E: Fn(usize) -> Result<(Expr, usize), Stop>>(
+fn call_part<E: Fn(usize) -> Result<(Boxed<Expr>, usize), Stop>>(
     alloc: Global,
     tokens: &[Token],
     at: usize,
@@ -111,7 +112,7 @@ fn call_part<E: Fn(usize) -> Result<(Expr, usize), Stop>>(
 }
 
 // A dot, and a field or a call.
-fn member_part<E: Fn(usize) -> Result<(Expr, usize), Stop>>(
+fn member_part<E: Fn(usize) -> Result<(Boxed<Expr>, usize), Stop>>(
     alloc: Global,
     tokens: &[Token],
     at: usize,
@@ -132,7 +133,7 @@ fn member_part<E: Fn(usize) -> Result<(Expr, usize), Stop>>(
 }
 
 // An index in brackets.
-fn index_part<E: Fn(usize) -> Result<(Expr, usize), Stop>>(
+fn index_part<E: Fn(usize) -> Result<(Boxed<Expr>, usize), Stop>>(
     tokens: &[Token],
     at: usize,
     room: usize,
@@ -149,7 +150,7 @@ fn index_part<E: Fn(usize) -> Result<(Expr, usize), Stop>>(
     Ok((PostfixPart::Index(span, index), end))
 }
 
-fn part<E: Fn(usize) -> Result<(Expr, usize), Stop>>(
+fn part<E: Fn(usize) -> Result<(Boxed<Expr>, usize), Stop>>(
     alloc: Global,
     tokens: &[Token],
     at: usize,
@@ -168,7 +169,7 @@ fn part<E: Fn(usize) -> Result<(Expr, usize), Stop>>(
 }
 
 // What goes on with a primary expression.
-fn parts<E: Fn(usize) -> Result<(Expr, usize), Stop>>(
+fn parts<E: Fn(usize) -> Result<(Boxed<Expr>, usize), Stop>>(
     alloc: Global,
     tokens: &[Token],
     at: usize,
@@ -211,22 +212,22 @@ fn stepped(
 fn postfixed(
     alloc: Global,
     span: Span,
-    first: Expr,
+    first: Boxed<Expr>,
     parts: Items<PostfixPart>,
-) -> Result<Expr, AllocError>
+) -> Result<Boxed<Expr>, AllocError>
     ensures { IfOk result (λ tree. tree ≡ grammar.postfixed span first parts) }
 {
     if parts.is_empty() {
         Ok(first)
     } else {
-        Ok(Expr::Postfix(span, Boxed::new(alloc, first)?, parts))
+        Boxed::new(alloc, Expr::Postfix(span, first, parts))
     }
 }
 
 /// A postfix expression.
 pub fn postfix<
-    E: Fn(usize) -> Result<(Expr, usize), Stop>,
-    Q: Fn(usize) -> Result<(QueryTree, usize), Stop>,
+    E: Fn(usize) -> Result<(Boxed<Expr>, usize), Stop>,
+    Q: Fn(usize) -> Result<(Boxed<QueryTree>, usize), Stop>,
 >(
     alloc: Global,
     tokens: &[Token],
@@ -234,7 +235,7 @@ pub fn postfix<
     room: usize,
     expr: &E,
     query: &Q,
-) -> Result<(Expr, usize), Stop>
+) -> Result<(Boxed<Expr>, usize), Stop>
     requires calls { E.IsAlwaysCallable expr.now }
     requires told { ReadsBy tokens.now (E.post expr.now) (grammar.deeper_expr room) }
     requires query_calls { Q.IsAlwaysCallable query.now }
@@ -249,13 +250,13 @@ pub fn postfix<
 }
 
 // The expression of a bind.
-fn bound<E: Fn(usize) -> Result<(Expr, usize), Stop>>(
+fn bound<E: Fn(usize) -> Result<(Boxed<Expr>, usize), Stop>>(
     alloc: Global,
     tokens: &[Token],
     at: usize,
     room: usize,
     expr: &E,
-) -> Result<(Expr, usize), Stop>
+) -> Result<(Boxed<Expr>, usize), Stop>
     requires calls { E.IsAlwaysCallable expr.now }
     requires told { ReadsBy tokens.now (E.post expr.now) (grammar.deeper_expr room) }
     ensures { Told tokens.now (grammar.bound room (grammar.deeper_expr room)) at result }
@@ -267,7 +268,7 @@ fn bound<E: Fn(usize) -> Result<(Expr, usize), Stop>>(
 }
 
 /// A bind of a query.
-pub fn bind_with<E: Fn(usize) -> Result<(Expr, usize), Stop>>(
+pub fn bind_with<E: Fn(usize) -> Result<(Boxed<Expr>, usize), Stop>>(
     alloc: Global,
     tokens: &[Token],
     at: usize,
@@ -281,5 +282,5 @@ pub fn bind_with<E: Fn(usize) -> Result<(Expr, usize), Stop>>(
     let behind = pass_sign(tokens, at, Sign::Colon)?;
     let (tree, end) = bound(alloc, tokens, behind, room, expr)?;
     let span = span_of(tokens, at, end);
-    Ok((BindTree::Expr(span, Boxed::new(alloc, tree)?), end))
+    Ok((BindTree::Expr(span, tree), end))
 }

@@ -11,7 +11,7 @@ use crate::rule::InCode;
 use crate::unary::unary_with;
 use crate::whole::expr_with;
 use apex_lexer::Token;
-use apex_list::Items;
+use apex_list::{Boxed, Items};
 use apex_syntax::{BindTree, Expr, QueryTree};
 use soql_parse::{Binds, query_within};
 use std::alloc::Global;
@@ -24,7 +24,7 @@ fn deeper_expr(
     tokens: &[Token],
     at: usize,
     room: usize,
-) -> Result<(Expr, usize), Stop>
+) -> Result<(Boxed<Expr>, usize), Stop>
     ensures { Told tokens.now (grammar.deeper_expr room) at result }
 {
     if room == 0 {
@@ -56,7 +56,7 @@ fn deeper_query(
     tokens: &[Token],
     at: usize,
     room: usize,
-) -> Result<(QueryTree, usize), Stop>
+) -> Result<(Boxed<QueryTree>, usize), Stop>
     ensures { Told tokens.now (grammar.deeper_query room) at result }
 {
     if room == 0 {
@@ -80,7 +80,7 @@ fn bind_within(
 ) -> Result<(BindTree, usize), Stop>
     ensures { Told tokens.now (grammar.bind_with room (grammar.deeper_expr room)) at result }
 {
-    let argument = |place: usize| -> Result<(Expr, usize), Stop>
+    let argument = |place: usize| -> Result<(Boxed<Expr>, usize), Stop>
         ensures { Told tokens.entry.now (grammar.deeper_expr room) place result }
     { deeper_expr(alloc, tokens, place, room) };
     bind_with(alloc, tokens, at, room, &argument)
@@ -96,10 +96,10 @@ fn unary_within(
 ) -> Result<(Part, usize), Stop>
     ensures { Told tokens.now (grammar.unary room) at result }
 {
-    let expr = |place: usize| -> Result<(Expr, usize), Stop>
+    let expr = |place: usize| -> Result<(Boxed<Expr>, usize), Stop>
         ensures { Told tokens.entry.now (grammar.deeper_expr room) place result }
     { deeper_expr(alloc, tokens, place, room) };
-    let query = |place: usize| -> Result<(QueryTree, usize), Stop>
+    let query = |place: usize| -> Result<(Boxed<QueryTree>, usize), Stop>
         ensures { Told tokens.entry.now (grammar.deeper_query room) place result }
     { deeper_query(alloc, tokens, place, room) };
     let unary = |place: usize| -> Result<(Part, usize), Stop>
@@ -115,10 +115,10 @@ pub fn expr_within(
     tokens: &[Token],
     at: usize,
     room: usize,
-) -> Result<(Expr, usize), Stop>
+) -> Result<(Boxed<Expr>, usize), Stop>
     ensures { Told tokens.now (grammar.expr room) at result }
 {
-    let inner = |place: usize| -> Result<(Expr, usize), Stop>
+    let inner = |place: usize| -> Result<(Boxed<Expr>, usize), Stop>
         ensures { Told tokens.entry.now (grammar.deeper_expr room) place result }
     { deeper_expr(alloc, tokens, place, room) };
     let operand = |place: usize| -> Result<(Part, usize), Stop>
@@ -136,7 +136,7 @@ pub fn args_within(
 ) -> Result<(Items<Expr>, usize), Stop>
     ensures { Told tokens.now (grammar.args room (grammar.deeper_expr room)) at result }
 {
-    let inner = |place: usize| -> Result<(Expr, usize), Stop>
+    let inner = |place: usize| -> Result<(Boxed<Expr>, usize), Stop>
         ensures { Told tokens.entry.now (grammar.deeper_expr room) place result }
     { deeper_expr(alloc, tokens, place, room) };
     args(alloc, tokens, at, room, &inner)
@@ -150,7 +150,7 @@ fn least(a: usize, b: usize) -> usize
 }
 
 /// The expression that begins at a token, and the place behind it. At most 64 forms are open at once.
-pub fn expr(alloc: Global, tokens: &[Token], at: usize) -> Result<(Expr, usize), ParseFault>
+pub fn expr(alloc: Global, tokens: &[Token], at: usize) -> Result<(Boxed<Expr>, usize), ParseFault>
     ensures { MatchResult result (λ r. Found tokens.now (grammar.expr 64) at r.0 r.1) (λ e. RefusedBy tokens.now (grammar.expr 64) at e) }
 {
     match expr_within(alloc, tokens, at, 64) {

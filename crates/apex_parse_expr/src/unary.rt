@@ -1,16 +1,17 @@
 // Operands without a binary operator. `expr`, `query` and `unary` read in a form that is opened.
 
+ghost use Rattle.std.specs.Prelude.{List};
+ghost use Rattle.apex_lexer.specs.declared.token.Token.{Token};
+ghost use Rattle.token_grammar.specs.Notation.{Give};
 ghost use Rattle.token_grammar.specs.Readings.{Told, ReadsBy};
-ghost use Rattle.apex_parse_expr.specs.Types as types;
+ghost use Rattle.apex_parse_leaf.specs.Types as types;
 ghost use Rattle.apex_parse_expr.specs.Exprs as grammar;
 
-use crate::casts::is_cast;
 use crate::part::Part;
 use crate::postfix::postfix;
-use crate::single::{is_prefix, open_prefix};
-use crate::types::deeper_type;
 use apex_lexer::{Sign, Token};
 use apex_list::Boxed;
+use apex_parse_leaf::{deeper_type, is_cast, is_prefix, open_prefix};
 use apex_syntax::{Expr, QueryTree};
 use std::alloc::Global;
 use token_grammar::{Stop, open_sign, pass_sign, span_of};
@@ -31,6 +32,20 @@ fn inner_unary<U: Fn(usize) -> Result<(Part, usize), Stop>>(
     unary(at)
 }
 
+// What can't be the target of an assignment.
+fn closed(alloc: Global, tree: Expr, end: usize) -> Result<(Part, usize), Stop>
+    ensures { (tokens : List Token) → Told tokens (Give (grammar.closed tree)) end result }
+{
+    let tree = Boxed::new(alloc, tree)?;
+    Ok((
+        Part {
+            tree,
+            target: false,
+        },
+        end,
+    ))
+}
+
 // A prefix operator and an operand.
 fn prefixed<U: Fn(usize) -> Result<(Part, usize), Stop>>(
     alloc: Global,
@@ -46,14 +61,7 @@ fn prefixed<U: Fn(usize) -> Result<(Part, usize), Stop>>(
     let (op, behind) = open_prefix(tokens, at, room)?;
     let (operand, end) = inner_unary(tokens, behind, room, unary)?;
     let span = span_of(tokens, at, end);
-    let tree = Expr::Prefix(span, op, Boxed::new(alloc, operand.tree)?);
-    Ok((
-        Part {
-            tree,
-            target: false,
-        },
-        end,
-    ))
+    closed(alloc, Expr::Prefix(span, op, operand.tree), end)
 }
 
 // A type in parentheses and an operand.
@@ -73,20 +81,13 @@ fn cast<U: Fn(usize) -> Result<(Part, usize), Stop>>(
     let behind = pass_sign(tokens, behind, Sign::CloseParen)?;
     let (operand, end) = inner_unary(tokens, behind, room, unary)?;
     let span = span_of(tokens, at, end);
-    let tree = Expr::Cast(span, kind, Boxed::new(alloc, operand.tree)?);
-    Ok((
-        Part {
-            tree,
-            target: false,
-        },
-        end,
-    ))
+    closed(alloc, Expr::Cast(span, kind, operand.tree), end)
 }
 
 // A postfix expression, which can be the target of an assignment.
 fn target<
-    E: Fn(usize) -> Result<(Expr, usize), Stop>,
-    Q: Fn(usize) -> Result<(QueryTree, usize), Stop>,
+    E: Fn(usize) -> Result<(Boxed<Expr>, usize), Stop>,
+    Q: Fn(usize) -> Result<(Boxed<QueryTree>, usize), Stop>,
 >(
     alloc: Global,
     tokens: &[Token],
@@ -107,8 +108,8 @@ fn target<
 
 /// An operand without a binary operator.
 pub fn unary_with<
-    E: Fn(usize) -> Result<(Expr, usize), Stop>,
-    Q: Fn(usize) -> Result<(QueryTree, usize), Stop>,
+    E: Fn(usize) -> Result<(Boxed<Expr>, usize), Stop>,
+    Q: Fn(usize) -> Result<(Boxed<QueryTree>, usize), Stop>,
     U: Fn(usize) -> Result<(Part, usize), Stop>,
 >(
     alloc: Global,
@@ -130,7 +131,7 @@ pub fn unary_with<
     if is_prefix(tokens, at) {
         return prefixed(alloc, tokens, at, room, unary);
     }
-    let casts = is_cast(alloc, tokens, at, room)?;
+    let casts = is_cast(alloc, tokens, at)?;
     if casts {
         cast(alloc, tokens, at, room, unary)
     } else {

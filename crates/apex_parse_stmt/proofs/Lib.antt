@@ -1,3 +1,5 @@
 mod Moving
 mod Looks
 mod Rooms
+mod Starts
+pub mod Begins

@@ -7,7 +7,8 @@ use Rattle.token_grammar.specs.Notation.{Rule}
 use Rattle.token_grammar.specs.Tokens.{refuse_here}
 use Rattle.token_grammar.specs.declared.fault.ParseWord.TheVariants.{TooDeep}
 use Rattle.token_grammar.proofs.Moves.{Moves}
-use Rattle.apex_parse_expr.proofs.Moving.{open_moves, type_moves, expr_moves}
+use Rattle.apex_parse_leaf.proofs.TypeMoves.{type_moves}
+use Rattle.apex_parse_expr.proofs.Moving.{open_moves, expr_moves}
 use Rattle.apex_parse_stmt.specs.Stmts.{stmt, stmt_with, deeper_stmt, nested, jumps, other}
 
 nested_moves : (room : ℕ) (s : Rule Stmt) → Moves (nested room s)

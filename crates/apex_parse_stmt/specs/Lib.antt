@@ -1,2 +1,3 @@
 pub mod Stmts
 pub mod Units
+pub mod Laws

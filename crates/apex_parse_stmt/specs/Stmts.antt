@@ -2,15 +2,15 @@
 --
 -- `room` is how many forms may still be opened: beside those of expressions each `{` opens one, and each statement without
 -- braces behind `if`, `else`, `while`, `do` and `for`. `s` reads a statement in a form that is opened.
-use Rattle.std.specs.Prelude.{◌≡◌, ◌+◌, ◌⊎◌, ℕ, zero, suc, List, [], ◌∷◌, Bool, true, false, Option, Some, None}
+use Rattle.std.specs.Prelude.{◌≡◌, ◌+◌, ◌||◌, ℕ, zero, suc, List, [], ◌∷◌, Bool, true, false, Option, Some, None}
 use Rattle.apex_text.specs.declared.place.Span.{Span}
-use Rattle.apex_lexer.specs.declared.token.Token.{Token}
 use Rattle.apex_lexer.specs.declared.token.Keyword.{Keyword}
 use Rattle.apex_lexer.specs.declared.token.Keyword.TheVariants.{If as IfWord, Else, While as WhileWord, Do as DoWord, For as ForWord, Return as ReturnWord, Break as BreakWord, Continue as ContinueWord, Throw as ThrowWord, Try as TryWord, Catch as CatchWord, Finally, Insert, Update, Delete, Upsert, This as ThisWord, Super as SuperWord, New, True, False, Null}
 use Rattle.apex_lexer.specs.declared.token.Sign.{Sign}
-use Rattle.apex_lexer.specs.declared.token.Sign.TheVariants.{Assign, Colon, Comma, Semicolon, OpenParen, CloseParen, OpenBracket, OpenBrace, CloseBrace, Not, Minus, Increment, Decrement}
+use Rattle.apex_lexer.specs.declared.token.Sign.TheVariants.{Assign, Colon, Comma, Semicolon, OpenParen, CloseParen, OpenBracket, OpenBrace, CloseBrace}
 use Rattle.apex_lexer.specs.declared.token.TokenKind.{TokenKind}
-use Rattle.apex_lexer.specs.declared.token.TokenKind.TheVariants.{Name, Keyword as IsWord, Sign as IsSign, Integer, Long, Decimal, Quoted, End}
+use Rattle.apex_lexer.specs.declared.token.TokenKind.TheVariants.{Keyword as IsWord, Sign as IsSign, Integer, Long, Decimal, Quoted, End}
+use Rattle.apex_lexer.specs.Reading.{Shown}
 use Rattle.apex_syntax.specs.declared.word.Word.{Word}
 use Rattle.apex_syntax.specs.declared.expr.Expr.{Expr}
 use Rattle.apex_syntax.specs.declared.expr.TypeTree.{TypeTree}
@@ -25,9 +25,10 @@ use Rattle.apex_syntax.specs.declared.stmt.DmlOp.{DmlOp}
 use Rattle.apex_syntax.specs.declared.stmt.DmlOp.TheVariants.{Insert as Inserts, Update as Updates, Delete as Deletes, Upsert as Upserts}
 use Rattle.token_grammar.specs.declared.fault.ParseWord.TheVariants.{TooDeep, Expected}
 use Rattle.token_grammar.specs.declared.read.Names.TheVariants.{InCode}
-use Rattle.token_grammar.specs.Notation.{Rule, Give, Here, Since, Is, Take, Then, Choose, Many, Test, Reads, Stops, kind_at}
+use Rattle.token_grammar.specs.Notation.{Rule, Give, Here, Since, Is, Take, Then, Choose, Many, Test, kind_at}
 use Rattle.token_grammar.specs.Tokens.{sign, word, name, next_sign, next_word, is_name, optional, open_sign, refuse_here}
-use Rattle.apex_parse_expr.specs.Types.{type, member}
+use Rattle.apex_parse_leaf.specs.Leaves.{is_prefix}
+use Rattle.apex_parse_leaf.specs.Types.{type, member, IsType}
 use Rattle.apex_parse_expr.specs.Exprs.{expr, deeper_expr, args}
 use Rattle.apex_parse_stmt.specs.declared.part.Ways.{Ways}
 use Rattle.apex_parse_stmt.specs.declared.part.Caught.{Caught}
@@ -36,67 +37,75 @@ use Rattle.apex_parse_stmt.specs.declared.part.ForHead.TheVariants.{Each, Loop}
 
 -- ---- what begins a statement
 
-abbrev pub word_begins : Keyword → Bool
-word_begins IfWord = true
-word_begins WhileWord = true
-word_begins DoWord = true
-word_begins ForWord = true
-word_begins ReturnWord = true
-word_begins BreakWord = true
-word_begins ContinueWord = true
-word_begins ThrowWord = true
-word_begins TryWord = true
-word_begins Insert = true
-word_begins Update = true
-word_begins Delete = true
-word_begins Upsert = true
-word_begins ThisWord = true
-word_begins SuperWord = true
-word_begins New = true
-word_begins True = true
-word_begins False = true
-word_begins Null = true
-word_begins k = is_name InCode (IsWord k)
+abbrev pub is_jump : TokenKind → Bool
+is_jump (IsWord ReturnWord) = true
+is_jump (IsWord BreakWord) = true
+is_jump (IsWord ContinueWord) = true
+is_jump (IsWord ThrowWord) = true
+is_jump _ = false
 
-abbrev pub sign_begins : Sign → Bool
-sign_begins OpenBrace = true
-sign_begins Semicolon = true
-sign_begins OpenParen = true
-sign_begins OpenBracket = true
-sign_begins Not = true
-sign_begins Minus = true
-sign_begins Increment = true
-sign_begins Decrement = true
-sign_begins _ = false
+abbrev pub is_nested : TokenKind → Bool
+is_nested (IsWord IfWord) = true
+is_nested (IsWord WhileWord) = true
+is_nested (IsWord DoWord) = true
+is_nested (IsWord ForWord) = true
+is_nested (IsWord TryWord) = true
+is_nested _ = false
+
+abbrev pub is_dml : TokenKind → Bool
+is_dml (IsWord Insert) = true
+is_dml (IsWord Update) = true
+is_dml (IsWord Delete) = true
+is_dml (IsWord Upsert) = true
+is_dml _ = false
+
+abbrev pub next_of : (TokenKind → Bool) → Test
+next_of class tokens at = class (kind_at tokens at) ≡ true
+
+abbrev pub expr_word : Keyword → Bool
+expr_word ThisWord = true
+expr_word SuperWord = true
+expr_word New = true
+expr_word True = true
+expr_word False = true
+expr_word Null = true
+expr_word _ = false
+
+-- neither a name nor a prefix operator
+abbrev pub expr_token : TokenKind → Bool
+expr_token (Integer n) = true
+expr_token (Long n) = true
+expr_token (Decimal n) = true
+expr_token Quoted = true
+expr_token (IsSign OpenParen) = true
+expr_token (IsSign OpenBracket) = true
+expr_token (IsWord k) = expr_word k
+expr_token _ = false
+
+abbrev pub begins_expr : TokenKind → Bool
+begins_expr k = is_name InCode k || (is_prefix k || expr_token k)
+
+-- braces, and `;`
+abbrev pub stmt_sign : TokenKind → Bool
+stmt_sign (IsSign OpenBrace) = true
+stmt_sign (IsSign Semicolon) = true
+stmt_sign _ = false
 
 abbrev pub begins_stmt : TokenKind → Bool
-begins_stmt Name = true
-begins_stmt (Integer n) = true
-begins_stmt (Long n) = true
-begins_stmt (Decimal n) = true
-begins_stmt Quoted = true
-begins_stmt (IsWord k) = word_begins k
-begins_stmt (IsSign g) = sign_begins g
-begins_stmt _ = false
+begins_stmt k = stmt_sign k || (is_nested k || (is_jump k || (is_dml k || begins_expr k)))
 
 abbrev pub next_stmt : Test
 next_stmt tokens at = begins_stmt (kind_at tokens at) ≡ true
 
--- a type and a name
-pub record TypedName (tokens : List Token) (room at : ℕ) : Type 0 where
-  pub tree : TypeTree
+-- a type of any depth and a name behind it
+pub record TypedName (tokens : List Shown) (at : ℕ) : Type 0 where
   pub end : ℕ
-  pub reads : Reads tokens (type room) at tree end
+  pub is_type : IsType tokens at end
   pub named : is_name InCode (kind_at tokens end) ≡ true
 
--- a type whose reading stops for its nesting, so that what follows it can't be told
-pub record DeepType (tokens : List Token) (room at : ℕ) : Type 0 where
-  pub place : ℕ
-  pub stops : Stops tokens (type room) at TooDeep place
-
 -- a declaration begins
-abbrev pub next_declared : ℕ → Test
-next_declared room tokens at = TypedName tokens room at ⊎ DeepType tokens room at
+abbrev pub next_declared : Test
+next_declared tokens at = TypedName tokens at
 
 -- ---- statements in others
 
@@ -191,7 +200,7 @@ for_expr room = Then (expr room) (λ x. for_rest room (StartExpr x))
 -- what stands in the parentheses of a `for`
 abbrev pub for_head : ℕ → Rule ForHead
 for_head room =
-    Choose (next_sign Semicolon) (for_rest room Nothing) (Choose (next_declared room) (for_declared room) (for_expr room))
+    Choose (next_sign Semicolon) (for_rest room Nothing) (Choose next_declared (for_declared room) (for_expr room))
 
 abbrev pub for_parens : ℕ → Rule ForHead
 for_parens room = Then (open_sign OpenParen room) (λ inside. Then (for_head inside) (λ h. Then (sign CloseParen) (λ _. Give h)))
@@ -228,7 +237,7 @@ dml_kind (IsWord Delete) = Some Deletes
 dml_kind (IsWord Upsert) = Some Upserts
 dml_kind _ = None
 
-abbrev pub dml_of : Token → Option DmlOp
+abbrev pub dml_of : Shown → Option DmlOp
 dml_of t = dml_kind t.kind
 
 abbrev pub dml_op : Rule DmlOp
@@ -322,37 +331,12 @@ branching room s =
 abbrev pub nested : ℕ → Rule Stmt → Rule Stmt
 nested room s = Choose (next_word TryWord) (try_stmt room s) (branching room s)
 
-abbrev pub is_jump : TokenKind → Bool
-is_jump (IsWord ReturnWord) = true
-is_jump (IsWord BreakWord) = true
-is_jump (IsWord ContinueWord) = true
-is_jump (IsWord ThrowWord) = true
-is_jump _ = false
-
-abbrev pub is_nested : TokenKind → Bool
-is_nested (IsWord IfWord) = true
-is_nested (IsWord WhileWord) = true
-is_nested (IsWord DoWord) = true
-is_nested (IsWord ForWord) = true
-is_nested (IsWord TryWord) = true
-is_nested _ = false
-
-abbrev pub is_dml : TokenKind → Bool
-is_dml (IsWord Insert) = true
-is_dml (IsWord Update) = true
-is_dml (IsWord Delete) = true
-is_dml (IsWord Upsert) = true
-is_dml _ = false
-
-abbrev pub next_of : (TokenKind → Bool) → Test
-next_of class tokens at = class (kind_at tokens at) ≡ true
-
 -- what begins with no word of its own
 abbrev pub other : ℕ → Rule Stmt
 other room =
     Choose (next_call ThisWord) (call_stmt ThisWord This room)
     (Choose (next_call SuperWord) (call_stmt SuperWord Super room)
-    (Choose (next_declared room) (declare room) (expr_stmt room)))
+    (Choose next_declared (declare room) (expr_stmt room)))
 
 abbrev pub stmt_with : ℕ → Rule Stmt → Rule Stmt
 stmt_with room s =

@@ -3,15 +3,16 @@
 ghost use Rattle.token_grammar.specs.Readings.{Told};
 ghost use Rattle.token_grammar.specs.Tokens.{optional, next_sign};
 ghost use Rattle.apex_lexer.specs.declared.token.Sign.TheVariants as signs;
+ghost use Rattle.apex_parse_leaf.specs.Types as types;
 ghost use Rattle.apex_parse_stmt.specs.Stmts as grammar;
 
-use crate::leaf::boxed_expr;
 use apex_lexer::{Sign, Token};
 use apex_list::{Boxed, Items};
-use apex_parse_expr::type_tree;
-use apex_syntax::{Declarator, Expr, Stmt};
+use apex_parse_expr::expr_within;
+use apex_parse_leaf::type_tree;
+use apex_syntax::{Declarator, Expr, Stmt, TypeTree};
 use std::alloc::Global;
-use token_grammar::{Names, Stop, is_sign, name, pass_sign, span_of};
+use token_grammar::{Names, Stop, boxed, is_sign, name, pass_sign, span_of};
 
 /// The value behind `=`, where that is written.
 pub fn initial(
@@ -24,7 +25,7 @@ pub fn initial(
 {
     if is_sign(tokens, at, Sign::Assign) {
         let behind = pass_sign(tokens, at, Sign::Assign)?;
-        let (value, end) = boxed_expr(alloc, tokens, behind, room)?;
+        let (value, end) = expr_within(alloc, tokens, behind, room)?;
         Ok((Some(value), end))
     } else {
         Ok((None, at))
@@ -89,18 +90,31 @@ fn declarators(
     more_declarators(alloc, tokens, behind, room, first)
 }
 
+/// A type, in a box.
+pub fn boxed_type(
+    alloc: Global,
+    tokens: &[Token],
+    at: usize,
+    room: usize,
+) -> Result<(Boxed<TypeTree>, usize), Stop>
+    ensures { Told tokens.now (types.type room) at result }
+{
+    let (tree, end) = type_tree(alloc, tokens, at, room)?;
+    Ok((Boxed::new(alloc, tree)?, end))
+}
+
 /// A declaration of one or more names.
 pub fn declare(
     alloc: Global,
     tokens: &[Token],
     at: usize,
     room: usize,
-) -> Result<(Stmt, usize), Stop>
+) -> Result<(Boxed<Stmt>, usize), Stop>
     ensures { Told tokens.now (grammar.declare room) at result }
 {
-    let (kind, behind) = type_tree(alloc, tokens, at, room)?;
+    let (kind, behind) = boxed_type(alloc, tokens, at, room)?;
     let (names, behind) = declarators(alloc, tokens, behind, room)?;
     let end = pass_sign(tokens, behind, Sign::Semicolon)?;
     let span = span_of(tokens, at, end);
-    Ok((Stmt::Declare(span, kind, names), end))
+    boxed(alloc, Stmt::Declare(span, kind.into_value(), names), end)
 }

@@ -13,20 +13,9 @@ use apex_list::Boxed;
 use apex_parse_expr::{args_within, expr_within};
 use apex_syntax::{DmlOp, Expr, Stmt};
 use std::alloc::Global;
-use token_grammar::{ParseWord, Stop, is_sign, is_word, pass_sign, pass_word, span_of, token_at};
-
-/// An expression, in a box.
-pub fn boxed_expr(
-    alloc: Global,
-    tokens: &[Token],
-    at: usize,
-    room: usize,
-) -> Result<(Boxed<Expr>, usize), Stop>
-    ensures { Told tokens.now (exprs.expr room) at result }
-{
-    let (tree, end) = expr_within(alloc, tokens, at, room)?;
-    Ok((Boxed::new(alloc, tree)?, end))
-}
+use token_grammar::{
+    ParseWord, Stop, boxed, is_sign, is_word, pass_sign, pass_word, span_of, token_at,
+};
 
 /// An expression, unless this sign stands here.
 pub fn unless(
@@ -41,17 +30,17 @@ pub fn unless(
     if is_sign(tokens, at, sign) {
         Ok((None, at))
     } else {
-        let (tree, end) = boxed_expr(alloc, tokens, at, room)?;
+        let (tree, end) = expr_within(alloc, tokens, at, room)?;
         Ok((Some(tree), end))
     }
 }
 
 /// `;`
-pub fn empty(tokens: &[Token], at: usize) -> Result<(Stmt, usize), Stop>
+pub fn empty(alloc: Global, tokens: &[Token], at: usize) -> Result<(Boxed<Stmt>, usize), Stop>
     ensures { Told tokens.now grammar.empty at result }
 {
     let end = pass_sign(tokens, at, Sign::Semicolon)?;
-    Ok((Stmt::Empty(span_of(tokens, at, end)), end))
+    boxed(alloc, Stmt::Empty(span_of(tokens, at, end)), end)
 }
 
 fn return_stmt(
@@ -59,32 +48,32 @@ fn return_stmt(
     tokens: &[Token],
     at: usize,
     room: usize,
-) -> Result<(Stmt, usize), Stop>
+) -> Result<(Boxed<Stmt>, usize), Stop>
     ensures { Told tokens.now (grammar.return_stmt room) at result }
 {
     let behind = pass_word(tokens, at, Keyword::Return)?;
     let (value, behind) = unless(alloc, tokens, behind, room, Sign::Semicolon)?;
     let end = pass_sign(tokens, behind, Sign::Semicolon)?;
     let span = span_of(tokens, at, end);
-    Ok((Stmt::Return(span, value), end))
+    boxed(alloc, Stmt::Return(span, value), end)
 }
 
-fn break_stmt(tokens: &[Token], at: usize) -> Result<(Stmt, usize), Stop>
+fn break_stmt(alloc: Global, tokens: &[Token], at: usize) -> Result<(Boxed<Stmt>, usize), Stop>
     ensures { Told tokens.now (grammar.jump keywords.Break stmts.Break) at result }
 {
     let behind = pass_word(tokens, at, Keyword::Break)?;
     let end = pass_sign(tokens, behind, Sign::Semicolon)?;
     let span = span_of(tokens, at, end);
-    Ok((Stmt::Break(span), end))
+    boxed(alloc, Stmt::Break(span), end)
 }
 
-fn continue_stmt(tokens: &[Token], at: usize) -> Result<(Stmt, usize), Stop>
+fn continue_stmt(alloc: Global, tokens: &[Token], at: usize) -> Result<(Boxed<Stmt>, usize), Stop>
     ensures { Told tokens.now (grammar.jump keywords.Continue stmts.Continue) at result }
 {
     let behind = pass_word(tokens, at, Keyword::Continue)?;
     let end = pass_sign(tokens, behind, Sign::Semicolon)?;
     let span = span_of(tokens, at, end);
-    Ok((Stmt::Continue(span), end))
+    boxed(alloc, Stmt::Continue(span), end)
 }
 
 fn throw_stmt(
@@ -92,26 +81,31 @@ fn throw_stmt(
     tokens: &[Token],
     at: usize,
     room: usize,
-) -> Result<(Stmt, usize), Stop>
+) -> Result<(Boxed<Stmt>, usize), Stop>
     ensures { Told tokens.now (grammar.throw_stmt room) at result }
 {
     let behind = pass_word(tokens, at, Keyword::Throw)?;
-    let (value, behind) = boxed_expr(alloc, tokens, behind, room)?;
+    let (value, behind) = expr_within(alloc, tokens, behind, room)?;
     let end = pass_sign(tokens, behind, Sign::Semicolon)?;
     let span = span_of(tokens, at, end);
-    Ok((Stmt::Throw(span, value), end))
+    boxed(alloc, Stmt::Throw(span, value), end)
 }
 
 /// A statement that goes on elsewhere.
-pub fn jumps(alloc: Global, tokens: &[Token], at: usize, room: usize) -> Result<(Stmt, usize), Stop>
+pub fn jumps(
+    alloc: Global,
+    tokens: &[Token],
+    at: usize,
+    room: usize,
+) -> Result<(Boxed<Stmt>, usize), Stop>
     ensures { Told tokens.now (grammar.jumps room) at result }
 {
     if is_word(tokens, at, Keyword::Return) {
         return_stmt(alloc, tokens, at, room)
     } else if is_word(tokens, at, Keyword::Break) {
-        break_stmt(tokens, at)
+        break_stmt(alloc, tokens, at)
     } else if is_word(tokens, at, Keyword::Continue) {
-        continue_stmt(tokens, at)
+        continue_stmt(alloc, tokens, at)
     } else {
         throw_stmt(alloc, tokens, at, room)
     }
@@ -149,14 +143,14 @@ pub fn dml_stmt(
     tokens: &[Token],
     at: usize,
     room: usize,
-) -> Result<(Stmt, usize), Stop>
+) -> Result<(Boxed<Stmt>, usize), Stop>
     ensures { Told tokens.now (grammar.dml_stmt room) at result }
 {
     let (op, behind) = dml_op(tokens, at)?;
-    let (value, behind) = boxed_expr(alloc, tokens, behind, room)?;
+    let (value, behind) = expr_within(alloc, tokens, behind, room)?;
     let end = pass_sign(tokens, behind, Sign::Semicolon)?;
     let span = span_of(tokens, at, end);
-    Ok((Stmt::Dml(span, op, value), end))
+    boxed(alloc, Stmt::Dml(span, op, value), end)
 }
 
 /// `this` with arguments.
@@ -165,14 +159,14 @@ pub fn this_call(
     tokens: &[Token],
     at: usize,
     room: usize,
-) -> Result<(Stmt, usize), Stop>
+) -> Result<(Boxed<Stmt>, usize), Stop>
     ensures { Told tokens.now (grammar.call_stmt keywords.This stmts.This room) at result }
 {
     let behind = pass_word(tokens, at, Keyword::This)?;
     let (args, behind) = args_within(alloc, tokens, behind, room)?;
     let end = pass_sign(tokens, behind, Sign::Semicolon)?;
     let span = span_of(tokens, at, end);
-    Ok((Stmt::This(span, args), end))
+    boxed(alloc, Stmt::This(span, args), end)
 }
 
 /// `super` with arguments.
@@ -181,14 +175,14 @@ pub fn super_call(
     tokens: &[Token],
     at: usize,
     room: usize,
-) -> Result<(Stmt, usize), Stop>
+) -> Result<(Boxed<Stmt>, usize), Stop>
     ensures { Told tokens.now (grammar.call_stmt keywords.Super stmts.Super room) at result }
 {
     let behind = pass_word(tokens, at, Keyword::Super)?;
     let (args, behind) = args_within(alloc, tokens, behind, room)?;
     let end = pass_sign(tokens, behind, Sign::Semicolon)?;
     let span = span_of(tokens, at, end);
-    Ok((Stmt::Super(span, args), end))
+    boxed(alloc, Stmt::Super(span, args), end)
 }
 
 /// An expression.
@@ -197,11 +191,11 @@ pub fn expr_stmt(
     tokens: &[Token],
     at: usize,
     room: usize,
-) -> Result<(Stmt, usize), Stop>
+) -> Result<(Boxed<Stmt>, usize), Stop>
     ensures { Told tokens.now (grammar.expr_stmt room) at result }
 {
-    let (tree, behind) = boxed_expr(alloc, tokens, at, room)?;
+    let (tree, behind) = expr_within(alloc, tokens, at, room)?;
     let end = pass_sign(tokens, behind, Sign::Semicolon)?;
     let span = span_of(tokens, at, end);
-    Ok((Stmt::Expr(span, tree), end))
+    boxed(alloc, Stmt::Expr(span, tree), end)
 }

@@ -5,6 +5,7 @@
 #![tactic(auto)]
 
 mod declare;
+mod laws;
 mod leaf;
 mod look;
 mod loops;
@@ -13,7 +14,8 @@ mod part;
 mod read;
 mod tries;
 
-pub use declare::initial;
+pub use declare::{boxed_type, initial};
+pub use laws::laws_of_beginnings;
 pub use look::is_named;
 pub use part::{ForHead, Ways};
 pub use read::{anonymous_unit, body_within, pass_end, stmt_within};

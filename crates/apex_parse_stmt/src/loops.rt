@@ -1,17 +1,19 @@
 // What stands in the parentheses of a statement.
 
 ghost use Rattle.token_grammar.specs.Readings.{Told};
+ghost use Rattle.apex_syntax.specs.declared.stmt.ForStart.TheVariants as starts;
 ghost use Rattle.apex_parse_stmt.specs.Stmts as grammar;
 
-use crate::leaf::{boxed_expr, unless};
+use crate::declare::boxed_type;
+use crate::leaf::unless;
 use crate::look::is_declared;
 use crate::part::ForHead;
 use apex_lexer::{Sign, Token};
 use apex_list::{Boxed, Items};
-use apex_parse_expr::type_tree;
+use apex_parse_expr::expr_within;
 use apex_syntax::{Declarator, Expr, ForStart, TypeTree, Word};
 use std::alloc::Global;
-use token_grammar::{Names, Stop, is_sign, name, open_sign, pass_sign};
+use token_grammar::{Names, Stop, boxed, is_sign, name, open_sign, pass_sign};
 
 /// An expression in parentheses.
 pub fn tested(
@@ -23,7 +25,7 @@ pub fn tested(
     ensures { Told tokens.now (grammar.tested room) at result }
 {
     let (inside, behind) = open_sign(tokens, at, Sign::OpenParen, room)?;
-    let (tree, behind) = boxed_expr(alloc, tokens, behind, inside)?;
+    let (tree, behind) = expr_within(alloc, tokens, behind, inside)?;
     let end = pass_sign(tokens, behind, Sign::CloseParen)?;
     Ok((tree, end))
 }
@@ -34,15 +36,15 @@ fn for_rest(
     tokens: &[Token],
     at: usize,
     room: usize,
-    start: ForStart,
-) -> Result<(ForHead, usize), Stop>
+    start: Boxed<ForStart>,
+) -> Result<(Boxed<ForHead>, usize), Stop>
     ensures { Told tokens.now (grammar.for_rest room start) at result }
 {
     let behind = pass_sign(tokens, at, Sign::Semicolon)?;
     let (cond, behind) = unless(alloc, tokens, behind, room, Sign::Semicolon)?;
     let behind = pass_sign(tokens, behind, Sign::Semicolon)?;
     let (step, end) = unless(alloc, tokens, behind, room, Sign::CloseParen)?;
-    Ok((ForHead::Loop(start, cond, step), end))
+    boxed(alloc, ForHead::Loop(start, cond, step), end)
 }
 
 // `=` and the value of a variable.
@@ -56,7 +58,7 @@ fn first_value(
     ensures { Told tokens.now (grammar.first_value room name) at result }
 {
     let behind = pass_sign(tokens, at, Sign::Assign)?;
-    let (value, end) = boxed_expr(alloc, tokens, behind, room)?;
+    let (value, end) = expr_within(alloc, tokens, behind, room)?;
     Ok((
         Declarator {
             name,
@@ -131,14 +133,14 @@ fn for_each(
     tokens: &[Token],
     at: usize,
     room: usize,
-    kind: TypeTree,
+    kind: Boxed<TypeTree>,
     name: Word,
-) -> Result<(ForHead, usize), Stop>
+) -> Result<(Boxed<ForHead>, usize), Stop>
     ensures { Told tokens.now (grammar.for_each room kind name) at result }
 {
     let behind = pass_sign(tokens, at, Sign::Colon)?;
-    let (list, end) = boxed_expr(alloc, tokens, behind, room)?;
-    Ok((ForHead::Each(kind, name, list), end))
+    let (list, end) = expr_within(alloc, tokens, behind, room)?;
+    boxed(alloc, ForHead::Each(kind, name, list), end)
 }
 
 // The variables of a `for`, behind the name of the first one.
@@ -147,13 +149,14 @@ fn for_variables(
     tokens: &[Token],
     at: usize,
     room: usize,
-    kind: TypeTree,
+    kind: Boxed<TypeTree>,
     name: Word,
-) -> Result<(ForHead, usize), Stop>
+) -> Result<(Boxed<ForHead>, usize), Stop>
     ensures { Told tokens.now (grammar.for_variables room kind name) at result }
 {
     let (names, behind) = all_variables(alloc, tokens, at, room, name)?;
-    for_rest(alloc, tokens, behind, room, ForStart::Declare(kind, names))
+    let start = Boxed::new(alloc, ForStart::Declare(kind.into_value(), names))?;
+    for_rest(alloc, tokens, behind, room, start)
 }
 
 fn for_declared(
@@ -161,10 +164,10 @@ fn for_declared(
     tokens: &[Token],
     at: usize,
     room: usize,
-) -> Result<(ForHead, usize), Stop>
+) -> Result<(Boxed<ForHead>, usize), Stop>
     ensures { Told tokens.now (grammar.for_declared room) at result }
 {
-    let (kind, behind) = type_tree(alloc, tokens, at, room)?;
+    let (kind, behind) = boxed_type(alloc, tokens, at, room)?;
     let (name, behind) = name(alloc, tokens, behind, Names::InCode)?;
     if is_sign(tokens, behind, Sign::Colon) {
         for_each(alloc, tokens, behind, room, kind, name)
@@ -178,11 +181,25 @@ fn for_expr(
     tokens: &[Token],
     at: usize,
     room: usize,
-) -> Result<(ForHead, usize), Stop>
+) -> Result<(Boxed<ForHead>, usize), Stop>
     ensures { Told tokens.now (grammar.for_expr room) at result }
 {
-    let (start, behind) = boxed_expr(alloc, tokens, at, room)?;
-    for_rest(alloc, tokens, behind, room, ForStart::Expr(start))
+    let (tree, behind) = expr_within(alloc, tokens, at, room)?;
+    let start = Boxed::new(alloc, ForStart::Expr(tree))?;
+    for_rest(alloc, tokens, behind, room, start)
+}
+
+// A `for` that begins with nothing.
+fn for_nothing(
+    alloc: Global,
+    tokens: &[Token],
+    at: usize,
+    room: usize,
+) -> Result<(Boxed<ForHead>, usize), Stop>
+    ensures { Told tokens.now (grammar.for_rest room starts.Nothing) at result }
+{
+    let start = Boxed::new(alloc, ForStart::Nothing)?;
+    for_rest(alloc, tokens, at, room, start)
 }
 
 fn for_head(
@@ -190,13 +207,13 @@ fn for_head(
     tokens: &[Token],
     at: usize,
     room: usize,
-) -> Result<(ForHead, usize), Stop>
+) -> Result<(Boxed<ForHead>, usize), Stop>
     ensures { Told tokens.now (grammar.for_head room) at result }
 {
     if is_sign(tokens, at, Sign::Semicolon) {
-        return for_rest(alloc, tokens, at, room, ForStart::Nothing);
+        return for_nothing(alloc, tokens, at, room);
     }
-    let declared = is_declared(alloc, tokens, at, room)?;
+    let declared = is_declared(alloc, tokens, at)?;
     if declared {
         for_declared(alloc, tokens, at, room)
     } else {
@@ -210,7 +227,7 @@ pub fn for_parens(
     tokens: &[Token],
     at: usize,
     room: usize,
-) -> Result<(ForHead, usize), Stop>
+) -> Result<(Boxed<ForHead>, usize), Stop>
     ensures { Told tokens.now (grammar.for_parens room) at result }
 {
     let (inside, behind) = open_sign(tokens, at, Sign::OpenParen, room)?;

@@ -1,9 +1,11 @@
 // Statements with statements in them. `stmt` reads one in a form that is opened.
 
-ghost use Rattle.std.specs.Prelude.{◌≡◌};
+ghost use Rattle.std.specs.Prelude.{List};
+ghost use Rattle.token_grammar.specs.Notation.{Give};
 ghost use Rattle.token_grammar.specs.Readings.{Told, ReadsBy};
 ghost use Rattle.token_grammar.specs.Tokens.{optional, next_word};
 ghost use Rattle.apex_lexer.specs.declared.token.Keyword.TheVariants as keywords;
+ghost use Rattle.apex_lexer.specs.declared.token.Token.{Token};
 ghost use Rattle.apex_parse_stmt.specs.Stmts as grammar;
 
 use crate::look::is_stmt;
@@ -14,15 +16,17 @@ use apex_list::{Boxed, Items};
 use apex_syntax::{Body, Expr, Stmt};
 use apex_text::Span;
 use std::alloc::Global;
-use token_grammar::{ParseWord, Stop, is_sign, is_word, open_sign, pass_sign, pass_word, span_of};
+use token_grammar::{
+    ParseWord, Stop, boxed, is_sign, is_word, open_sign, pass_sign, pass_word, span_of,
+};
 
 // A statement in a form that is opened, where so many could be opened before that.
-fn inner_stmt<S: Fn(usize) -> Result<(Stmt, usize), Stop>>(
+fn inner_stmt<S: Fn(usize) -> Result<(Boxed<Stmt>, usize), Stop>>(
     tokens: &[Token],
     at: usize,
     room: usize,
     stmt: &S,
-) -> Result<(Stmt, usize), Stop>
+) -> Result<(Boxed<Stmt>, usize), Stop>
     requires calls { S.IsAlwaysCallable stmt.now }
     requires told { ReadsBy tokens.now (S.post stmt.now) (grammar.deeper_stmt room) }
     ensures { Told tokens.now (grammar.deeper_stmt room) at result }
@@ -33,7 +37,7 @@ fn inner_stmt<S: Fn(usize) -> Result<(Stmt, usize), Stop>>(
 }
 
 // The statements of a block.
-fn stmts<S: Fn(usize) -> Result<(Stmt, usize), Stop>>(
+fn stmts<S: Fn(usize) -> Result<(Boxed<Stmt>, usize), Stop>>(
     alloc: Global,
     tokens: &[Token],
     at: usize,
@@ -48,14 +52,14 @@ fn stmts<S: Fn(usize) -> Result<(Stmt, usize), Stop>>(
     let mut end = at;
     'stmts: while is_stmt(tokens, end) {
         let (next, after) = inner_stmt(tokens, end, room, stmt)?;
-        stmts.push(next)?;
+        stmts.push(next.into_value())?;
         end = after;
     }
     Ok((stmts, end))
 }
 
 /// Statements in braces.
-pub fn block<S: Fn(usize) -> Result<(Stmt, usize), Stop>>(
+pub fn block<S: Fn(usize) -> Result<(Boxed<Stmt>, usize), Stop>>(
     alloc: Global,
     tokens: &[Token],
     at: usize,
@@ -74,23 +78,23 @@ pub fn block<S: Fn(usize) -> Result<(Stmt, usize), Stop>>(
 }
 
 /// Statements in braces, as a statement.
-pub fn braced<S: Fn(usize) -> Result<(Stmt, usize), Stop>>(
+pub fn braced<S: Fn(usize) -> Result<(Boxed<Stmt>, usize), Stop>>(
     alloc: Global,
     tokens: &[Token],
     at: usize,
     room: usize,
     stmt: &S,
-) -> Result<(Stmt, usize), Stop>
+) -> Result<(Boxed<Stmt>, usize), Stop>
     requires calls { S.IsAlwaysCallable stmt.now }
     requires told { ReadsBy tokens.now (S.post stmt.now) (grammar.deeper_stmt room) }
     ensures { Told tokens.now (grammar.braced room (grammar.deeper_stmt room)) at result }
 {
     let (body, end) = block(alloc, tokens, at, room, stmt)?;
-    Ok((Stmt::Block(body), end))
+    boxed(alloc, Stmt::Block(body), end)
 }
 
 // A statement for which no room is left.
-fn no_room(tokens: &[Token], at: usize) -> Result<(Stmt, usize), Stop>
+fn no_room(tokens: &[Token], at: usize) -> Result<(Boxed<Stmt>, usize), Stop>
     ensures { Told tokens.now grammar.no_room at result }
 {
     if is_stmt(tokens, at) {
@@ -101,12 +105,12 @@ fn no_room(tokens: &[Token], at: usize) -> Result<(Stmt, usize), Stop>
 }
 
 // A statement without braces in another one.
-fn unbraced<S: Fn(usize) -> Result<(Stmt, usize), Stop>>(
+fn unbraced<S: Fn(usize) -> Result<(Boxed<Stmt>, usize), Stop>>(
     tokens: &[Token],
     at: usize,
     room: usize,
     stmt: &S,
-) -> Result<(Stmt, usize), Stop>
+) -> Result<(Boxed<Stmt>, usize), Stop>
     requires calls { S.IsAlwaysCallable stmt.now }
     requires told { ReadsBy tokens.now (S.post stmt.now) (grammar.deeper_stmt room) }
     ensures { Told tokens.now (grammar.unbraced room (grammar.deeper_stmt room)) at result }
@@ -118,13 +122,13 @@ fn unbraced<S: Fn(usize) -> Result<(Stmt, usize), Stop>>(
 }
 
 // A statement in another one.
-fn inner_whole<S: Fn(usize) -> Result<(Stmt, usize), Stop>>(
+fn inner<S: Fn(usize) -> Result<(Boxed<Stmt>, usize), Stop>>(
     alloc: Global,
     tokens: &[Token],
     at: usize,
     room: usize,
     stmt: &S,
-) -> Result<(Stmt, usize), Stop>
+) -> Result<(Boxed<Stmt>, usize), Stop>
     requires calls { S.IsAlwaysCallable stmt.now }
     requires told { ReadsBy tokens.now (S.post stmt.now) (grammar.deeper_stmt room) }
     ensures { Told tokens.now (grammar.inner room (grammar.deeper_stmt room)) at result }
@@ -136,24 +140,8 @@ fn inner_whole<S: Fn(usize) -> Result<(Stmt, usize), Stop>>(
     }
 }
 
-// The same in a box.
-fn inner<S: Fn(usize) -> Result<(Stmt, usize), Stop>>(
-    alloc: Global,
-    tokens: &[Token],
-    at: usize,
-    room: usize,
-    stmt: &S,
-) -> Result<(Boxed<Stmt>, usize), Stop>
-    requires calls { S.IsAlwaysCallable stmt.now }
-    requires told { ReadsBy tokens.now (S.post stmt.now) (grammar.deeper_stmt room) }
-    ensures { Told tokens.now (grammar.inner room (grammar.deeper_stmt room)) at result }
-{
-    let (tree, end) = inner_whole(alloc, tokens, at, room, stmt)?;
-    Ok((Boxed::new(alloc, tree)?, end))
-}
-
 // The statement behind `else`, where that is written.
-fn else_part<S: Fn(usize) -> Result<(Stmt, usize), Stop>>(
+fn else_part<S: Fn(usize) -> Result<(Boxed<Stmt>, usize), Stop>>(
     alloc: Global,
     tokens: &[Token],
     at: usize,
@@ -174,7 +162,7 @@ fn else_part<S: Fn(usize) -> Result<(Stmt, usize), Stop>>(
 }
 
 // The statements of an `if`.
-fn ways<S: Fn(usize) -> Result<(Stmt, usize), Stop>>(
+fn ways<S: Fn(usize) -> Result<(Boxed<Stmt>, usize), Stop>>(
     alloc: Global,
     tokens: &[Token],
     at: usize,
@@ -190,13 +178,13 @@ fn ways<S: Fn(usize) -> Result<(Stmt, usize), Stop>>(
     Ok((Ways { yes, no }, end))
 }
 
-fn if_stmt<S: Fn(usize) -> Result<(Stmt, usize), Stop>>(
+fn if_stmt<S: Fn(usize) -> Result<(Boxed<Stmt>, usize), Stop>>(
     alloc: Global,
     tokens: &[Token],
     at: usize,
     room: usize,
     stmt: &S,
-) -> Result<(Stmt, usize), Stop>
+) -> Result<(Boxed<Stmt>, usize), Stop>
     requires calls { S.IsAlwaysCallable stmt.now }
     requires told { ReadsBy tokens.now (S.post stmt.now) (grammar.deeper_stmt room) }
     ensures { Told tokens.now (grammar.if_stmt room (grammar.deeper_stmt room)) at result }
@@ -205,16 +193,16 @@ fn if_stmt<S: Fn(usize) -> Result<(Stmt, usize), Stop>>(
     let (cond, behind) = tested(alloc, tokens, behind, room)?;
     let (ways, end) = ways(alloc, tokens, behind, room, stmt)?;
     let span = span_of(tokens, at, end);
-    Ok((Stmt::If(span, cond, ways.yes, ways.no), end))
+    boxed(alloc, Stmt::If(span, cond, ways.yes, ways.no), end)
 }
 
-fn while_stmt<S: Fn(usize) -> Result<(Stmt, usize), Stop>>(
+fn while_stmt<S: Fn(usize) -> Result<(Boxed<Stmt>, usize), Stop>>(
     alloc: Global,
     tokens: &[Token],
     at: usize,
     room: usize,
     stmt: &S,
-) -> Result<(Stmt, usize), Stop>
+) -> Result<(Boxed<Stmt>, usize), Stop>
     requires calls { S.IsAlwaysCallable stmt.now }
     requires told { ReadsBy tokens.now (S.post stmt.now) (grammar.deeper_stmt room) }
     ensures { Told tokens.now (grammar.while_stmt room (grammar.deeper_stmt room)) at result }
@@ -223,7 +211,7 @@ fn while_stmt<S: Fn(usize) -> Result<(Stmt, usize), Stop>>(
     let (cond, behind) = tested(alloc, tokens, behind, room)?;
     let (inner, end) = inner(alloc, tokens, behind, room, stmt)?;
     let span = span_of(tokens, at, end);
-    Ok((Stmt::While(span, cond, inner), end))
+    boxed(alloc, Stmt::While(span, cond, inner), end)
 }
 
 // `while`, a condition and `;`
@@ -241,13 +229,13 @@ fn do_end(
     Ok((cond, end))
 }
 
-fn do_stmt<S: Fn(usize) -> Result<(Stmt, usize), Stop>>(
+fn do_stmt<S: Fn(usize) -> Result<(Boxed<Stmt>, usize), Stop>>(
     alloc: Global,
     tokens: &[Token],
     at: usize,
     room: usize,
     stmt: &S,
-) -> Result<(Stmt, usize), Stop>
+) -> Result<(Boxed<Stmt>, usize), Stop>
     requires calls { S.IsAlwaysCallable stmt.now }
     requires told { ReadsBy tokens.now (S.post stmt.now) (grammar.deeper_stmt room) }
     ensures { Told tokens.now (grammar.do_stmt room (grammar.deeper_stmt room)) at result }
@@ -256,25 +244,40 @@ fn do_stmt<S: Fn(usize) -> Result<(Stmt, usize), Stop>>(
     let (inner, behind) = inner(alloc, tokens, behind, room, stmt)?;
     let (cond, end) = do_end(alloc, tokens, behind, room)?;
     let span = span_of(tokens, at, end);
-    Ok((Stmt::Do(span, inner, cond), end))
+    boxed(alloc, Stmt::Do(span, inner, cond), end)
 }
 
-fn for_tree(span: Span, head: ForHead, stmt: Boxed<Stmt>) -> Stmt
-    ensures { result ≡ grammar.for_tree span head stmt }
+// A `for` that ends here, in a box.
+fn for_made(
+    alloc: Global,
+    span: Span,
+    head: Boxed<ForHead>,
+    stmt: Boxed<Stmt>,
+    end: usize,
+) -> Result<(Boxed<Stmt>, usize), Stop>
+    ensures { (tokens : List Token) → Told tokens (Give (grammar.for_tree span head stmt)) end result }
 {
-    match head {
-        ForHead::Each(kind, name, list) => Stmt::ForEach(span, kind, name, list, stmt),
-        ForHead::Loop(start, cond, step) => Stmt::For(span, start, cond, step, stmt),
+    match head.into_value() {
+        ForHead::Each(kind, name, list) => {
+            let kind = kind.into_value();
+            let tree = Stmt::ForEach(span, kind, name, list, stmt);
+            boxed(alloc, tree, end)
+        }
+        ForHead::Loop(start, cond, step) => {
+            let start = start.into_value();
+            let tree = Stmt::For(span, start, cond, step, stmt);
+            boxed(alloc, tree, end)
+        }
     }
 }
 
-fn for_stmt<S: Fn(usize) -> Result<(Stmt, usize), Stop>>(
+fn for_stmt<S: Fn(usize) -> Result<(Boxed<Stmt>, usize), Stop>>(
     alloc: Global,
     tokens: &[Token],
     at: usize,
     room: usize,
     stmt: &S,
-) -> Result<(Stmt, usize), Stop>
+) -> Result<(Boxed<Stmt>, usize), Stop>
     requires calls { S.IsAlwaysCallable stmt.now }
     requires told { ReadsBy tokens.now (S.post stmt.now) (grammar.deeper_stmt room) }
     ensures { Told tokens.now (grammar.for_stmt room (grammar.deeper_stmt room)) at result }
@@ -283,17 +286,17 @@ fn for_stmt<S: Fn(usize) -> Result<(Stmt, usize), Stop>>(
     let (head, behind) = for_parens(alloc, tokens, behind, room)?;
     let (inner, end) = inner(alloc, tokens, behind, room, stmt)?;
     let span = span_of(tokens, at, end);
-    Ok((for_tree(span, head, inner), end))
+    for_made(alloc, span, head, inner, end)
 }
 
 /// A statement that has statements in it and isn't `try`.
-pub fn branching<S: Fn(usize) -> Result<(Stmt, usize), Stop>>(
+pub fn branching<S: Fn(usize) -> Result<(Boxed<Stmt>, usize), Stop>>(
     alloc: Global,
     tokens: &[Token],
     at: usize,
     room: usize,
     stmt: &S,
-) -> Result<(Stmt, usize), Stop>
+) -> Result<(Boxed<Stmt>, usize), Stop>
     requires calls { S.IsAlwaysCallable stmt.now }
     requires told { ReadsBy tokens.now (S.post stmt.now) (grammar.deeper_stmt room) }
     ensures { Told tokens.now (grammar.branching room (grammar.deeper_stmt room)) at result }

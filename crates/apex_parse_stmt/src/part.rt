@@ -4,7 +4,7 @@ use apex_list::Boxed;
 use apex_syntax::{Expr, ForStart, Stmt, TypeTree, Word};
 
 /// The statements of an `if`.
-#[derive(Debug, Drop)]
+#[derive(Drop)]
 pub struct Ways {
     pub yes: Boxed<Stmt>,
     /// The one behind `else`.
@@ -12,16 +12,16 @@ pub struct Ways {
 }
 
 /// What stands in the parentheses of a `for`.
-#[derive(Debug, Drop)]
+#[derive(Drop)]
 pub enum ForHead {
     /// A type, a name, and the list behind the colon.
-    Each(TypeTree, Word, Boxed<Expr>),
+    Each(Boxed<TypeTree>, Word, Boxed<Expr>),
     /// What it begins with, its condition and its step.
-    Loop(ForStart, Option<Boxed<Expr>>, Option<Boxed<Expr>>),
+    Loop(Boxed<ForStart>, Option<Boxed<Expr>>, Option<Boxed<Expr>>),
 }
 
 /// What stands in the parentheses of a `catch`.
-#[derive(Debug, Drop)]
+#[derive(Drop)]
 pub struct Caught {
     pub class: Word,
     /// The name behind a dot of the class.

@@ -3,7 +3,7 @@
 ghost use Rattle.std.specs.Prelude.{MatchResult};
 ghost use Rattle.token_grammar.specs.Readings.{Told, Passed, RefusedBy, ReadsBy};
 ghost use Rattle.apex_lexer.specs.declared.token.TokenKind.TheVariants as kinds;
-ghost use Rattle.apex_parse_stmt.specs.Units.{FoundBlock};
+ghost use Rattle.apex_parse_stmt.specs.Units as units;
 ghost use Rattle.apex_parse_stmt.specs.Stmts as grammar;
 
 use crate::declare::declare;
@@ -12,18 +12,18 @@ use crate::look::{is_call, is_declared, is_dml, is_jump, is_nested, is_stmt};
 use crate::nest::{block, braced, branching};
 use crate::tries::try_stmt;
 use apex_lexer::{Keyword, Sign, Token, TokenKind};
-use apex_list::Items;
+use apex_list::{Boxed, Items};
 use apex_syntax::{Body, Stmt, Unit};
 use std::alloc::Global;
-use token_grammar::{ParseFault, ParseWord, Stop, fault_of, is_sign, is_word, token_at};
+use token_grammar::{ParseFault, ParseWord, Stop, boxed, fault_of, is_sign, is_word, token_at};
 
-fn nested<S: Fn(usize) -> Result<(Stmt, usize), Stop>>(
+fn nested<S: Fn(usize) -> Result<(Boxed<Stmt>, usize), Stop>>(
     alloc: Global,
     tokens: &[Token],
     at: usize,
     room: usize,
     stmt: &S,
-) -> Result<(Stmt, usize), Stop>
+) -> Result<(Boxed<Stmt>, usize), Stop>
     requires calls { S.IsAlwaysCallable stmt.now }
     requires told { ReadsBy tokens.now (S.post stmt.now) (grammar.deeper_stmt room) }
     ensures { Told tokens.now (grammar.nested room (grammar.deeper_stmt room)) at result }
@@ -36,7 +36,12 @@ fn nested<S: Fn(usize) -> Result<(Stmt, usize), Stop>>(
 }
 
 // What begins with no word of its own.
-fn other(alloc: Global, tokens: &[Token], at: usize, room: usize) -> Result<(Stmt, usize), Stop>
+fn other(
+    alloc: Global,
+    tokens: &[Token],
+    at: usize,
+    room: usize,
+) -> Result<(Boxed<Stmt>, usize), Stop>
     ensures { Told tokens.now (grammar.other room) at result }
 {
     if is_call(tokens, at, Keyword::This) {
@@ -45,7 +50,7 @@ fn other(alloc: Global, tokens: &[Token], at: usize, room: usize) -> Result<(Stm
     if is_call(tokens, at, Keyword::Super) {
         return super_call(alloc, tokens, at, room);
     }
-    let declared = is_declared(alloc, tokens, at, room)?;
+    let declared = is_declared(alloc, tokens, at)?;
     if declared {
         declare(alloc, tokens, at, room)
     } else {
@@ -53,13 +58,13 @@ fn other(alloc: Global, tokens: &[Token], at: usize, room: usize) -> Result<(Stm
     }
 }
 
-fn stmt_with<S: Fn(usize) -> Result<(Stmt, usize), Stop>>(
+fn stmt_with<S: Fn(usize) -> Result<(Boxed<Stmt>, usize), Stop>>(
     alloc: Global,
     tokens: &[Token],
     at: usize,
     room: usize,
     stmt: &S,
-) -> Result<(Stmt, usize), Stop>
+) -> Result<(Boxed<Stmt>, usize), Stop>
     requires calls { S.IsAlwaysCallable stmt.now }
     requires told { ReadsBy tokens.now (S.post stmt.now) (grammar.deeper_stmt room) }
     ensures { Told tokens.now (grammar.stmt_with room (grammar.deeper_stmt room)) at result }
@@ -67,7 +72,7 @@ fn stmt_with<S: Fn(usize) -> Result<(Stmt, usize), Stop>>(
     if is_sign(tokens, at, Sign::OpenBrace) {
         braced(alloc, tokens, at, room, stmt)
     } else if is_sign(tokens, at, Sign::Semicolon) {
-        empty(tokens, at)
+        empty(alloc, tokens, at)
     } else if is_nested(tokens, at) {
         nested(alloc, tokens, at, room, stmt)
     } else if is_jump(tokens, at) {
@@ -86,7 +91,7 @@ fn deeper_stmt(
     tokens: &[Token],
     at: usize,
     room: usize,
-) -> Result<(Stmt, usize), Stop>
+) -> Result<(Boxed<Stmt>, usize), Stop>
     ensures { Told tokens.now (grammar.deeper_stmt room) at result }
 {
     if room == 0 {
@@ -102,10 +107,10 @@ pub fn stmt_within(
     tokens: &[Token],
     at: usize,
     room: usize,
-) -> Result<(Stmt, usize), Stop>
+) -> Result<(Boxed<Stmt>, usize), Stop>
     ensures { Told tokens.now (grammar.stmt room) at result }
 {
-    let inner = |place: usize| -> Result<(Stmt, usize), Stop>
+    let inner = |place: usize| -> Result<(Boxed<Stmt>, usize), Stop>
         ensures { Told tokens.entry.now (grammar.deeper_stmt room) place result }
     { deeper_stmt(alloc, tokens, place, room) };
     stmt_with(alloc, tokens, at, room, &inner)
@@ -120,7 +125,7 @@ pub fn body_within(
 ) -> Result<(Body, usize), Stop>
     ensures { Told tokens.now (grammar.block room (grammar.deeper_stmt room)) at result }
 {
-    let inner = |place: usize| -> Result<(Stmt, usize), Stop>
+    let inner = |place: usize| -> Result<(Boxed<Stmt>, usize), Stop>
         ensures { Told tokens.entry.now (grammar.deeper_stmt room) place result }
     { deeper_stmt(alloc, tokens, place, room) };
     block(alloc, tokens, at, room, &inner)
@@ -139,7 +144,7 @@ fn stmts(
     let mut end = at;
     'stmts: while is_stmt(tokens, end) {
         let (next, after) = stmt_within(alloc, tokens, end, room)?;
-        stmts.push(next)?;
+        stmts.push(next.into_value())?;
         end = after;
     }
     Ok((stmts, end))
@@ -171,12 +176,20 @@ fn anonymous(
     Ok((stmts, end))
 }
 
-/// The statements of an anonymous block: all tokens up to the end. At most 64 forms are open at once.
-pub fn anonymous_unit(alloc: Global, tokens: &[Token]) -> Result<Unit, ParseFault>
-    ensures { MatchResult result (λ unit. FoundBlock tokens.now unit) (λ e. RefusedBy tokens.now (grammar.anonymous 64) 0 e) }
+// All statements, as a unit.
+fn block_unit(alloc: Global, tokens: &[Token], room: usize) -> Result<(Boxed<Unit>, usize), Stop>
+    ensures { Told tokens.now (units.block_unit room) 0 result }
 {
-    match anonymous(alloc, tokens, 0, 64) {
-        Ok((stmts, _)) => Ok(Unit::Block(stmts)),
+    let (stmts, end) = anonymous(alloc, tokens, 0, room)?;
+    boxed(alloc, Unit::Block(stmts), end)
+}
+
+/// The statements of an anonymous block: all tokens up to the end. At most 64 forms are open at once.
+pub fn anonymous_unit(alloc: Global, tokens: &[Token]) -> Result<Boxed<Unit>, ParseFault>
+    ensures { MatchResult result (units.WholeUnit tokens.now (units.block_unit 64)) (RefusedBy tokens.now (units.block_unit 64) 0) }
+{
+    match block_unit(alloc, tokens, 64) {
+        Ok((unit, _)) => Ok(unit),
         Err(stop) => Err(fault_of(tokens, stop)),
     }
 }

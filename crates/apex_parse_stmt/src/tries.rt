@@ -8,13 +8,13 @@ ghost use Rattle.apex_parse_stmt.specs.Stmts as grammar;
 use crate::nest::block;
 use crate::part::Caught;
 use apex_lexer::{Keyword, Sign, Token};
-use apex_list::Items;
-use apex_parse_expr::member;
+use apex_list::{Boxed, Items};
+use apex_parse_leaf::member;
 use apex_syntax::{Body, Catch, Stmt};
 use std::alloc::Global;
-use token_grammar::{Names, Stop, is_word, name, open_sign, pass_sign, pass_word, span_of};
+use token_grammar::{Names, Stop, boxed, is_word, name, open_sign, pass_sign, pass_word, span_of};
 
-fn finally_block<S: Fn(usize) -> Result<(Stmt, usize), Stop>>(
+fn finally_block<S: Fn(usize) -> Result<(Boxed<Stmt>, usize), Stop>>(
     alloc: Global,
     tokens: &[Token],
     at: usize,
@@ -30,7 +30,7 @@ fn finally_block<S: Fn(usize) -> Result<(Stmt, usize), Stop>>(
 }
 
 // What is last in a try, behind its catches.
-fn last_part<S: Fn(usize) -> Result<(Stmt, usize), Stop>>(
+fn last_part<S: Fn(usize) -> Result<(Boxed<Stmt>, usize), Stop>>(
     alloc: Global,
     tokens: &[Token],
     at: usize,
@@ -50,7 +50,7 @@ fn last_part<S: Fn(usize) -> Result<(Stmt, usize), Stop>>(
 }
 
 // A `finally` that must stand here.
-fn needed<S: Fn(usize) -> Result<(Stmt, usize), Stop>>(
+fn needed<S: Fn(usize) -> Result<(Boxed<Stmt>, usize), Stop>>(
     alloc: Global,
     tokens: &[Token],
     at: usize,
@@ -66,7 +66,7 @@ fn needed<S: Fn(usize) -> Result<(Stmt, usize), Stop>>(
 }
 
 // A `finally` that may stand here.
-fn welcome<S: Fn(usize) -> Result<(Stmt, usize), Stop>>(
+fn welcome<S: Fn(usize) -> Result<(Boxed<Stmt>, usize), Stop>>(
     alloc: Global,
     tokens: &[Token],
     at: usize,
@@ -118,7 +118,7 @@ fn catch_head(
     Ok((caught, end))
 }
 
-fn catch<S: Fn(usize) -> Result<(Stmt, usize), Stop>>(
+fn catch<S: Fn(usize) -> Result<(Boxed<Stmt>, usize), Stop>>(
     alloc: Global,
     tokens: &[Token],
     at: usize,
@@ -149,7 +149,7 @@ fn catch<S: Fn(usize) -> Result<(Stmt, usize), Stop>>(
     ))
 }
 
-fn catches<S: Fn(usize) -> Result<(Stmt, usize), Stop>>(
+fn catches<S: Fn(usize) -> Result<(Boxed<Stmt>, usize), Stop>>(
     alloc: Global,
     tokens: &[Token],
     at: usize,
@@ -171,13 +171,13 @@ fn catches<S: Fn(usize) -> Result<(Stmt, usize), Stop>>(
 }
 
 /// A try with its catches and its finally.
-pub fn try_stmt<S: Fn(usize) -> Result<(Stmt, usize), Stop>>(
+pub fn try_stmt<S: Fn(usize) -> Result<(Boxed<Stmt>, usize), Stop>>(
     alloc: Global,
     tokens: &[Token],
     at: usize,
     room: usize,
     stmt: &S,
-) -> Result<(Stmt, usize), Stop>
+) -> Result<(Boxed<Stmt>, usize), Stop>
     requires calls { S.IsAlwaysCallable stmt.now }
     requires told { ReadsBy tokens.now (S.post stmt.now) (grammar.deeper_stmt room) }
     ensures { Told tokens.now (grammar.try_stmt room (grammar.deeper_stmt room)) at result }
@@ -187,5 +187,5 @@ pub fn try_stmt<S: Fn(usize) -> Result<(Stmt, usize), Stop>>(
     let (catches, behind) = catches(alloc, tokens, behind, room, stmt)?;
     let (last, end) = last_part(alloc, tokens, behind, room, &catches, stmt)?;
     let span = span_of(tokens, at, end);
-    Ok((Stmt::Try(span, body, catches, last), end))
+    boxed(alloc, Stmt::Try(span, body, catches, last), end)
 }

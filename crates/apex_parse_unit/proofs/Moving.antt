@@ -2,7 +2,7 @@
 use Rattle.std.specs.Prelude.{ℕ}
 use Rattle.std.proofs.Common.{inl, inr}
 use Rattle.token_grammar.proofs.Moves.{Moves}
-use Rattle.apex_parse_expr.proofs.Moving.{type_moves}
+use Rattle.apex_parse_leaf.proofs.TypeMoves.{type_moves}
 use Rattle.apex_parse_unit.specs.Members.{modifier, member, result_tree}
 use Rattle.apex_parse_unit.specs.Classes.{class_modifier, signature}
 

@@ -1,11 +1,11 @@
 -- The grammar of classes and interfaces (docs/language.md, "Units, as they are read").
 use Rattle.std.specs.Prelude.{◌≡◌, ℕ, List, [], ◌∷◌, Bool, Option, Some, None}
 use Rattle.apex_text.specs.declared.place.Span.{Span}
-use Rattle.apex_lexer.specs.declared.token.Token.{Token}
 use Rattle.apex_lexer.specs.declared.token.Keyword.TheVariants.{Public as PublicWord, Global as GlobalWord, Private as PrivateWord, Virtual as VirtualWord, Abstract as AbstractWord, With, Without, Inherited, Sharing, Class as ClassWord, Interface as InterfaceWord, Extends, Implements}
 use Rattle.apex_lexer.specs.declared.token.Sign.TheVariants.{Comma, Semicolon, OpenBrace, CloseBrace}
 use Rattle.apex_lexer.specs.declared.token.TokenKind.{TokenKind}
 use Rattle.apex_lexer.specs.declared.token.TokenKind.TheVariants.{Keyword as IsWord, End}
+use Rattle.apex_lexer.specs.Reading.{Shown}
 use Rattle.apex_syntax.specs.declared.word.Word.{Word}
 use Rattle.apex_syntax.specs.declared.unit.ClassWord.{ClassWord as TheWord}
 use Rattle.apex_syntax.specs.declared.unit.ClassWord.TheVariants.{Public, Global, Private, Virtual, Abstract, WithSharing, WithoutSharing, InheritedSharing}
@@ -42,10 +42,10 @@ class_kind (IsWord VirtualWord) = Some Virtual
 class_kind (IsWord AbstractWord) = Some Abstract
 class_kind k = sharing_kind k
 
-abbrev pub sharing_of : Token → Option TheWord
+abbrev pub sharing_of : Shown → Option TheWord
 sharing_of t = sharing_kind t.kind
 
-abbrev pub class_word_of : Token → Option TheWord
+abbrev pub class_word_of : Shown → Option TheWord
 class_word_of t = class_kind t.kind
 
 -- two words
@@ -102,7 +102,7 @@ access_kind (IsWord PublicWord) = Some Public
 access_kind (IsWord GlobalWord) = Some Global
 access_kind _ = None
 
-abbrev pub access_of : Token → Option TheWord
+abbrev pub access_of : Shown → Option TheWord
 access_of t = access_kind t.kind
 
 abbrev pub access : Rule ClassModifier

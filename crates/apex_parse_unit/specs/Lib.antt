@@ -2,4 +2,4 @@ pub mod Kinds
 pub mod Members
 pub mod Classes
 pub mod Triggers
-pub mod Units
+pub mod Laws

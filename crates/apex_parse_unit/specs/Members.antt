@@ -1,14 +1,14 @@
 -- The grammar of members (docs/language.md, "Units, as they are read"), in the notation of token_grammar.
 --
 -- `room` is how many forms may still be opened.
-use Rattle.std.specs.Prelude.{◌≡◌, ◌+◌, ℕ, List, [], ◌∷◌, Bool, true, false, Option, Some, None, IsSome}
+use Rattle.std.specs.Prelude.{◌≡◌, ◌+◌, ◌||◌, is_some, ℕ, List, [], ◌∷◌, Bool, true, false, Option, Some, None, IsSome}
 use Rattle.apex_text.specs.declared.place.Span.{Span}
-use Rattle.apex_lexer.specs.declared.token.Token.{Token}
 use Rattle.apex_lexer.specs.declared.token.Keyword.{Keyword}
 use Rattle.apex_lexer.specs.declared.token.Keyword.TheVariants.{Public as PublicWord, Global as GlobalWord, Private as PrivateWord, Protected as ProtectedWord, Static as StaticWord, Final as FinalWord, Virtual as VirtualWord, Abstract as AbstractWord, Override as OverrideWord, Void as VoidWord, Get, Set}
 use Rattle.apex_lexer.specs.declared.token.Sign.TheVariants.{Assign, Comma, Semicolon, OpenParen, CloseParen, OpenBrace, CloseBrace}
 use Rattle.apex_lexer.specs.declared.token.TokenKind.{TokenKind}
 use Rattle.apex_lexer.specs.declared.token.TokenKind.TheVariants.{Name, Keyword as IsWord, Sign as IsSign}
+use Rattle.apex_lexer.specs.Reading.{Shown}
 use Rattle.apex_syntax.specs.declared.word.Word.{Word}
 use Rattle.apex_syntax.specs.declared.expr.TypeTree.{TypeTree}
 use Rattle.apex_syntax.specs.declared.stmt.Body.{Body}
@@ -23,7 +23,7 @@ use Rattle.apex_syntax.specs.declared.unit.ParamTree.{ParamTree}
 use Rattle.token_grammar.specs.declared.read.Names.TheVariants.{InCode}
 use Rattle.token_grammar.specs.Notation.{Rule, Give, Here, Since, Take, Then, Choose, Many, Test, kind_at}
 use Rattle.token_grammar.specs.Tokens.{sign, word, name, next_sign, next_word, next_name, is_name, optional, open_sign}
-use Rattle.apex_parse_expr.specs.Types.{type}
+use Rattle.apex_parse_leaf.specs.Types.{type}
 use Rattle.apex_parse_stmt.specs.Stmts.{block, deeper_stmt, initial}
 use Rattle.apex_parse_unit.specs.declared.part.MemberBody.{MemberBody}
 use Rattle.apex_parse_unit.specs.declared.part.MemberBody.TheVariants.{Field as FieldBody, Property as PropertyBody, Method as MethodBody, Constructor as ConstructorBody}
@@ -46,7 +46,7 @@ member_kind (IsWord AbstractWord) = Some Abstract
 member_kind (IsWord OverrideWord) = Some Override
 member_kind _ = None
 
-abbrev pub member_word_of : Token → Option MemberWord
+abbrev pub member_word_of : Shown → Option MemberWord
 member_word_of t = member_kind t.kind
 
 abbrev pub modifier : Rule MemberModifier
@@ -140,22 +140,17 @@ member_tree sp ms (ConstructorBody x ps b) = Constructor sp ms x ps b
 abbrev pub member : ℕ → Rule MemberTree
 member room = Then Here (λ i. Then modifiers (λ ms. Then (member_body room) (λ b. Then (Since i) (λ sp. Give (member_tree sp ms b)))))
 
+abbrev pub is_void : TokenKind → Bool
+is_void (IsWord VoidWord) = true
+is_void _ = false
+
 -- `void` or a type begins here
 abbrev pub begins_result : TokenKind → Bool
-begins_result (IsWord VoidWord) = true
-begins_result k = is_name InCode k
+begins_result k = is_void k || is_name InCode k
 
+-- a modifier, or what a member has behind them
 abbrev pub begins_member : TokenKind → Bool
-begins_member (IsWord PublicWord) = true
-begins_member (IsWord GlobalWord) = true
-begins_member (IsWord PrivateWord) = true
-begins_member (IsWord ProtectedWord) = true
-begins_member (IsWord StaticWord) = true
-begins_member (IsWord FinalWord) = true
-begins_member (IsWord VirtualWord) = true
-begins_member (IsWord AbstractWord) = true
-begins_member (IsWord OverrideWord) = true
-begins_member k = begins_result k
+begins_member k = is_some (member_kind k) || begins_result k
 
 abbrev pub next_if : (TokenKind → Bool) → Test
 next_if class tokens at = class (kind_at tokens at) ≡ true

@@ -1,11 +1,11 @@
 -- The grammar of triggers (docs/language.md, "Units, as they are read").
 use Rattle.std.specs.Prelude.{ℕ, List, ◌∷◌, Bool, true, false, Option, Some, None}
 use Rattle.apex_text.specs.declared.place.Span.{Span}
-use Rattle.apex_lexer.specs.declared.token.Token.{Token}
 use Rattle.apex_lexer.specs.declared.token.Keyword.TheVariants.{Trigger as TriggerWord, On, Before, After, Insert as InsertWord, Update as UpdateWord, Delete as DeleteWord}
 use Rattle.apex_lexer.specs.declared.token.Sign.TheVariants.{Comma, OpenParen, CloseParen}
 use Rattle.apex_lexer.specs.declared.token.TokenKind.{TokenKind}
 use Rattle.apex_lexer.specs.declared.token.TokenKind.TheVariants.{Keyword as IsWord, End}
+use Rattle.apex_lexer.specs.Reading.{Shown}
 use Rattle.apex_syntax.specs.declared.stmt.Body.{Body}
 use Rattle.apex_syntax.specs.declared.unit.EventOp.{EventOp}
 use Rattle.apex_syntax.specs.declared.unit.EventOp.TheVariants.{Insert, Update, Delete}
@@ -25,7 +25,7 @@ time_kind (IsWord Before) = Some false
 time_kind (IsWord After) = Some true
 time_kind _ = None
 
-abbrev pub time_of : Token → Option Bool
+abbrev pub time_of : Shown → Option Bool
 time_of t = time_kind t.kind
 
 abbrev pub change_kind : TokenKind → Option EventOp
@@ -34,7 +34,7 @@ change_kind (IsWord UpdateWord) = Some Update
 change_kind (IsWord DeleteWord) = Some Delete
 change_kind _ = None
 
-abbrev pub change_of : Token → Option EventOp
+abbrev pub change_of : Shown → Option EventOp
 change_of t = change_kind t.kind
 
 abbrev pub event : Rule EventTree

@@ -1,6 +1,8 @@
 // Classes.
 
-ghost use Rattle.std.specs.Prelude.{◌≡◌};
+ghost use Rattle.std.specs.Prelude.{List};
+ghost use Rattle.apex_lexer.specs.declared.token.Token.{Token};
+ghost use Rattle.token_grammar.specs.Notation.{Give};
 ghost use Rattle.token_grammar.specs.Readings.{Told};
 ghost use Rattle.apex_parse_unit.specs.Classes as grammar;
 
@@ -8,12 +10,12 @@ use crate::members::members;
 use crate::modifiers::class_modifiers;
 use crate::part::ClassHead;
 use apex_lexer::{Keyword, Sign, Token};
-use apex_list::Items;
+use apex_list::{Boxed, Items};
 use apex_syntax::{ClassModifier, ClassTree, MemberTree, Word};
 use apex_text::Span;
 use std::alloc::Global;
 use token_grammar::{
-    Names, Stop, is_sign, is_word, name, open_sign, pass_sign, pass_word, span_of,
+    Names, Stop, boxed, is_sign, is_word, name, open_sign, pass_sign, pass_word, span_of,
 };
 
 // The name behind `extends`, where that is written.
@@ -120,17 +122,25 @@ fn class_body(
     Ok((members, end))
 }
 
-fn class_tree(span: Span, head: ClassHead, members: Items<MemberTree>) -> ClassTree
-    ensures { result ≡ grammar.class_tree span head members }
+// A class that ends here, in a box.
+fn made(
+    alloc: Global,
+    span: Span,
+    head: ClassHead,
+    members: Items<MemberTree>,
+    end: usize,
+) -> Result<(Boxed<ClassTree>, usize), Stop>
+    ensures { (tokens : List Token) → Told tokens (Give (grammar.class_tree span head members)) end result }
 {
-    ClassTree {
+    let tree = ClassTree {
         span,
         modifiers: head.modifiers,
         name: head.name,
         parent: head.parent,
         interfaces: head.interfaces,
         members,
-    }
+    };
+    boxed(alloc, tree, end)
 }
 
 /// A class.
@@ -139,11 +149,11 @@ pub fn class(
     tokens: &[Token],
     at: usize,
     room: usize,
-) -> Result<(ClassTree, usize), Stop>
+) -> Result<(Boxed<ClassTree>, usize), Stop>
     ensures { Told tokens.now (grammar.class room) at result }
 {
     let (head, behind) = class_head(alloc, tokens, at)?;
     let (members, end) = class_body(alloc, tokens, behind, room)?;
     let span = span_of(tokens, at, end);
-    Ok((class_tree(span, head, members), end))
+    made(alloc, span, head, members, end)
 }

@@ -1,6 +1,8 @@
 // Interfaces.
 
-ghost use Rattle.std.specs.Prelude.{◌≡◌};
+ghost use Rattle.std.specs.Prelude.{List};
+ghost use Rattle.apex_lexer.specs.declared.token.Token.{Token};
+ghost use Rattle.token_grammar.specs.Notation.{Give};
 ghost use Rattle.token_grammar.specs.Readings.{Told};
 ghost use Rattle.apex_parse_unit.specs.Classes as grammar;
 
@@ -9,11 +11,11 @@ use crate::modifiers::some_access;
 use crate::params::{params, result_tree};
 use crate::part::InterfaceHead;
 use apex_lexer::{Keyword, Sign, Token};
-use apex_list::Items;
+use apex_list::{Boxed, Items};
 use apex_syntax::{InterfaceTree, SignatureTree};
 use apex_text::Span;
 use std::alloc::Global;
-use token_grammar::{Names, Stop, name, open_sign, pass_sign, pass_word, span_of};
+use token_grammar::{Names, Stop, boxed, name, open_sign, pass_sign, pass_word, span_of};
 
 fn interface_head(
     alloc: Global,
@@ -34,7 +36,7 @@ fn signature(
     tokens: &[Token],
     at: usize,
     room: usize,
-) -> Result<(SignatureTree, usize), Stop>
+) -> Result<(Boxed<SignatureTree>, usize), Stop>
     ensures { Told tokens.now (grammar.signature room) at result }
 {
     let (answer, behind) = result_tree(alloc, tokens, at, room)?;
@@ -42,15 +44,13 @@ fn signature(
     let (params, behind) = params(alloc, tokens, behind, room)?;
     let end = pass_sign(tokens, behind, Sign::Semicolon)?;
     let span = span_of(tokens, at, end);
-    Ok((
-        SignatureTree {
-            span,
-            result: answer,
-            name,
-            params,
-        },
-        end,
-    ))
+    let tree = SignatureTree {
+        span,
+        result: answer.into_value(),
+        name,
+        params,
+    };
+    boxed(alloc, tree, end)
 }
 
 fn signatures(
@@ -65,7 +65,7 @@ fn signatures(
     let mut end = at;
     'all: while is_result(tokens, end) {
         let (next, after) = signature(alloc, tokens, end, room)?;
-        all.push(next)?;
+        all.push(next.into_value())?;
         end = after;
     }
     Ok((all, end))
@@ -85,15 +85,23 @@ fn interface_body(
     Ok((methods, end))
 }
 
-fn interface_tree(span: Span, head: InterfaceHead, methods: Items<SignatureTree>) -> InterfaceTree
-    ensures { result ≡ grammar.interface_tree span head methods }
+// An interface that ends here, in a box.
+fn made(
+    alloc: Global,
+    span: Span,
+    head: InterfaceHead,
+    methods: Items<SignatureTree>,
+    end: usize,
+) -> Result<(Boxed<InterfaceTree>, usize), Stop>
+    ensures { (tokens : List Token) → Told tokens (Give (grammar.interface_tree span head methods)) end result }
 {
-    InterfaceTree {
+    let tree = InterfaceTree {
         span,
         modifier: head.modifier,
         name: head.name,
         methods,
-    }
+    };
+    boxed(alloc, tree, end)
 }
 
 /// An interface.
@@ -102,11 +110,11 @@ pub fn interface(
     tokens: &[Token],
     at: usize,
     room: usize,
-) -> Result<(InterfaceTree, usize), Stop>
+) -> Result<(Boxed<InterfaceTree>, usize), Stop>
     ensures { Told tokens.now (grammar.interface room) at result }
 {
     let (head, behind) = interface_head(alloc, tokens, at)?;
     let (methods, end) = interface_body(alloc, tokens, behind, room)?;
     let span = span_of(tokens, at, end);
-    Ok((interface_tree(span, head, methods), end))
+    made(alloc, span, head, methods, end)
 }

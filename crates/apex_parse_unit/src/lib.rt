@@ -4,6 +4,7 @@
 mod classes;
 mod interfaces;
 mod kind;
+mod laws;
 mod members;
 mod modifiers;
 mod params;
@@ -13,4 +14,5 @@ mod whole;
 
 pub use apex_parse_stmt::anonymous_unit;
 pub use kind::{UnitKind, unit_kind};
+pub use laws::laws_of_members;
 pub use whole::{class_unit, trigger_unit};

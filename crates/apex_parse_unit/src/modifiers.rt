@@ -2,6 +2,7 @@
 
 ghost use Rattle.std.specs.Prelude.{◌≡◌, MatchBool};
 ghost use Rattle.token_grammar.specs.Notation as notation;
+ghost use Rattle.token_grammar.specs.Notation.{seen};
 ghost use Rattle.token_grammar.specs.Readings.{Told};
 ghost use Rattle.token_grammar.specs.Tokens.{optional};
 ghost use Rattle.apex_parse_unit.specs.Members as members;
@@ -13,7 +14,8 @@ use apex_syntax::{ClassModifier, ClassWord, MemberModifier, MemberWord};
 use std::alloc::Global;
 use token_grammar::{ParseWord, Stop, kind_at, pass_word, span_of, token_at};
 
-fn member_kind(kind: TokenKind) -> Option<MemberWord>
+/// What a modifier of a member says.
+pub fn member_kind(kind: TokenKind) -> Option<MemberWord>
     ensures { result ≡ members.member_kind kind }
 {
     match kind {
@@ -45,7 +47,7 @@ fn member_word(tokens: &[Token], at: usize) -> Result<(MemberWord, usize), Stop>
 }
 
 fn is_modifier(tokens: &[Token], at: usize) -> bool
-    ensures { MatchBool result (members.next_some members.member_kind tokens.now at) (members.next_some members.member_kind tokens.now at → ⊥) }
+    ensures { MatchBool result (members.next_some members.member_kind (seen tokens.now) at) (members.next_some members.member_kind (seen tokens.now) at → ⊥) }
 {
     match member_kind(kind_at(tokens, at)) {
         Some(_) => true,
@@ -130,7 +132,7 @@ fn sharing(tokens: &[Token], at: usize) -> Result<(ClassWord, usize), Stop>
 }
 
 fn is_sharing(tokens: &[Token], at: usize) -> bool
-    ensures { MatchBool result (members.next_some classes.sharing_kind tokens.now at) (members.next_some classes.sharing_kind tokens.now at → ⊥) }
+    ensures { MatchBool result (members.next_some classes.sharing_kind (seen tokens.now) at) (members.next_some classes.sharing_kind (seen tokens.now) at → ⊥) }
 {
     match sharing_kind(kind_at(tokens, at)) {
         Some(_) => true,
@@ -160,7 +162,7 @@ fn class_word(tokens: &[Token], at: usize) -> Result<(ClassWord, usize), Stop>
 }
 
 fn is_class_modifier(tokens: &[Token], at: usize) -> bool
-    ensures { MatchBool result (members.next_some classes.class_kind tokens.now at) (members.next_some classes.class_kind tokens.now at → ⊥) }
+    ensures { MatchBool result (members.next_some classes.class_kind (seen tokens.now) at) (members.next_some classes.class_kind (seen tokens.now) at → ⊥) }
 {
     match class_kind(kind_at(tokens, at)) {
         Some(_) => true,
@@ -208,7 +210,7 @@ fn access_kind(kind: TokenKind) -> Option<ClassWord>
 }
 
 fn is_access(tokens: &[Token], at: usize) -> bool
-    ensures { MatchBool result (members.next_some classes.access_kind tokens.now at) (members.next_some classes.access_kind tokens.now at → ⊥) }
+    ensures { MatchBool result (members.next_some classes.access_kind (seen tokens.now) at) (members.next_some classes.access_kind (seen tokens.now) at → ⊥) }
 {
     match access_kind(kind_at(tokens, at)) {
         Some(_) => true,

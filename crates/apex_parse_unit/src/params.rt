@@ -5,21 +5,25 @@ ghost use Rattle.token_grammar.specs.Readings.{Told};
 ghost use Rattle.apex_parse_unit.specs.Members as grammar;
 
 use apex_lexer::{Keyword, Sign, Token};
-use apex_list::Items;
-use apex_parse_expr::type_tree;
-use apex_parse_stmt::is_named;
+use apex_list::{Boxed, Items};
+use apex_parse_leaf::type_tree;
+use apex_parse_stmt::{boxed_type, is_named};
 use apex_syntax::{ParamTree, ResultTree};
 use std::alloc::Global;
 use token_grammar::{
-    Names, Stop, is_sign, is_word, name, open_sign, pass_sign, pass_word, span_of,
+    Names, Stop, boxed, is_sign, is_word, name, open_sign, pass_sign, pass_word, span_of,
 };
 
 /// `void`
-pub fn void_result(tokens: &[Token], at: usize) -> Result<(ResultTree, usize), Stop>
+pub fn void_result(
+    alloc: Global,
+    tokens: &[Token],
+    at: usize,
+) -> Result<(Boxed<ResultTree>, usize), Stop>
     ensures { Told tokens.now grammar.void_result at result }
 {
     let end = pass_word(tokens, at, Keyword::Void)?;
-    Ok((ResultTree::Void(span_of(tokens, at, end)), end))
+    boxed(alloc, ResultTree::Void(span_of(tokens, at, end)), end)
 }
 
 fn typed_result(
@@ -27,11 +31,11 @@ fn typed_result(
     tokens: &[Token],
     at: usize,
     room: usize,
-) -> Result<(ResultTree, usize), Stop>
+) -> Result<(Boxed<ResultTree>, usize), Stop>
     ensures { Told tokens.now (grammar.typed_result room) at result }
 {
     let (kind, end) = type_tree(alloc, tokens, at, room)?;
-    Ok((ResultTree::Type(kind), end))
+    boxed(alloc, ResultTree::Type(kind), end)
 }
 
 /// What a method answers: `void` or a type.
@@ -40,11 +44,11 @@ pub fn result_tree(
     tokens: &[Token],
     at: usize,
     room: usize,
-) -> Result<(ResultTree, usize), Stop>
+) -> Result<(Boxed<ResultTree>, usize), Stop>
     ensures { Told tokens.now (grammar.result_tree room) at result }
 {
     if is_word(tokens, at, Keyword::Void) {
-        void_result(tokens, at)
+        void_result(alloc, tokens, at)
     } else {
         typed_result(alloc, tokens, at, room)
     }
@@ -55,13 +59,14 @@ fn param(
     tokens: &[Token],
     at: usize,
     room: usize,
-) -> Result<(ParamTree, usize), Stop>
+) -> Result<(Boxed<ParamTree>, usize), Stop>
     ensures { Told tokens.now (grammar.param room) at result }
 {
-    let (kind, behind) = type_tree(alloc, tokens, at, room)?;
+    let (kind, behind) = boxed_type(alloc, tokens, at, room)?;
     let (name, end) = name(alloc, tokens, behind, Names::InCode)?;
     let span = span_of(tokens, at, end);
-    Ok((ParamTree { span, kind, name }, end))
+    let kind = kind.into_value();
+    boxed(alloc, ParamTree { span, kind, name }, end)
 }
 
 fn comma_param(
@@ -69,7 +74,7 @@ fn comma_param(
     tokens: &[Token],
     at: usize,
     room: usize,
-) -> Result<(ParamTree, usize), Stop>
+) -> Result<(Boxed<ParamTree>, usize), Stop>
     ensures { Told tokens.now (grammar.comma_param room) at result }
 {
     let behind = pass_sign(tokens, at, Sign::Comma)?;
@@ -82,16 +87,16 @@ fn more_params(
     tokens: &[Token],
     at: usize,
     room: usize,
-    first: ParamTree,
+    first: Boxed<ParamTree>,
 ) -> Result<(Items<ParamTree>, usize), Stop>
     ensures { Told tokens.now (grammar.more_params room first) at result }
 {
     let mut params = Items::new(alloc);
-    params.push(first)?;
+    params.push(first.into_value())?;
     let mut end = at;
     'params: while is_sign(tokens, end, Sign::Comma) {
         let (next, after) = comma_param(alloc, tokens, end, room)?;
-        params.push(next)?;
+        params.push(next.into_value())?;
         end = after;
     }
     Ok((params, end))

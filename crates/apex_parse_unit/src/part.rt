@@ -4,16 +4,16 @@ use apex_list::{Boxed, Items};
 use apex_syntax::{Body, ClassModifier, Expr, ParamTree, ResultTree, TypeTree, Word};
 
 /// A member without its modifiers.
-#[derive(Debug, Drop)]
+#[derive(Drop)]
 pub enum MemberBody {
-    Field(TypeTree, Word, Option<Boxed<Expr>>),
-    Property(TypeTree, Word),
-    Method(ResultTree, Word, Items<ParamTree>, Option<Body>),
+    Field(Boxed<TypeTree>, Word, Option<Boxed<Expr>>),
+    Property(Boxed<TypeTree>, Word),
+    Method(Boxed<ResultTree>, Word, Items<ParamTree>, Option<Body>),
     Constructor(Word, Items<ParamTree>, Body),
 }
 
 /// What stands before the braces of a class.
-#[derive(Debug, Drop)]
+#[derive(Drop)]
 pub struct ClassHead {
     pub modifiers: Items<ClassModifier>,
     pub name: Word,
@@ -24,14 +24,14 @@ pub struct ClassHead {
 }
 
 /// What stands before the braces of an interface.
-#[derive(Debug, Drop)]
+#[derive(Drop)]
 pub struct InterfaceHead {
     pub modifier: Option<ClassModifier>,
     pub name: Word,
 }
 
 /// What stands before the events of a trigger.
-#[derive(Debug, Drop)]
+#[derive(Drop)]
 pub struct TriggerHead {
     pub name: Word,
     /// The object behind `on`.

@@ -1,19 +1,21 @@
 // Triggers.
 
-ghost use Rattle.std.specs.Prelude.{◌≡◌};
+ghost use Rattle.std.specs.Prelude.{◌≡◌, List};
+ghost use Rattle.apex_lexer.specs.declared.token.Token.{Token};
 ghost use Rattle.token_grammar.specs.Notation as notation;
 ghost use Rattle.token_grammar.specs.Readings.{Told};
 ghost use Rattle.apex_parse_unit.specs.Triggers as grammar;
 
 use crate::part::TriggerHead;
 use apex_lexer::{Keyword, Sign, Token, TokenKind};
-use apex_list::Items;
+use apex_list::{Boxed, Items};
 use apex_parse_stmt::body_within;
 use apex_syntax::{Body, EventOp, EventTree, TriggerTree};
 use apex_text::Span;
 use std::alloc::Global;
 use token_grammar::{
-    Names, ParseWord, Stop, is_sign, name, open_sign, pass_sign, pass_word, span_of, token_at,
+    Names, ParseWord, Stop, boxed, is_sign, name, open_sign, pass_sign, pass_word, span_of,
+    token_at,
 };
 
 fn time_kind(kind: TokenKind) -> Option<bool>
@@ -130,16 +132,25 @@ fn trigger_head(alloc: Global, tokens: &[Token], at: usize) -> Result<(TriggerHe
     Ok((TriggerHead { name: word, object }, end))
 }
 
-fn trigger_tree(span: Span, head: TriggerHead, events: Items<EventTree>, body: Body) -> TriggerTree
-    ensures { result ≡ grammar.trigger_tree span head events body }
+// A trigger that ends here, in a box.
+fn made(
+    alloc: Global,
+    span: Span,
+    head: TriggerHead,
+    events: Items<EventTree>,
+    body: Body,
+    end: usize,
+) -> Result<(Boxed<TriggerTree>, usize), Stop>
+    ensures { (tokens : List Token) → Told tokens (notation.Give (grammar.trigger_tree span head events body)) end result }
 {
-    TriggerTree {
+    let tree = TriggerTree {
         span,
         name: head.name,
         object: head.object,
         events,
         body,
-    }
+    };
+    boxed(alloc, tree, end)
 }
 
 /// A trigger.
@@ -148,12 +159,12 @@ pub fn trigger(
     tokens: &[Token],
     at: usize,
     room: usize,
-) -> Result<(TriggerTree, usize), Stop>
+) -> Result<(Boxed<TriggerTree>, usize), Stop>
     ensures { Told tokens.now (grammar.trigger room) at result }
 {
     let (head, behind) = trigger_head(alloc, tokens, at)?;
     let (events, behind) = events(alloc, tokens, behind, room)?;
     let (body, end) = body_within(alloc, tokens, behind, room)?;
     let span = span_of(tokens, at, end);
-    Ok((trigger_tree(span, head, events, body), end))
+    made(alloc, span, head, events, body, end)
 }

@@ -3,10 +3,10 @@
 ghost use Rattle.std.specs.Prelude.{◌≡◌, IfOk};
 
 use apex_list::{Boxed, Items};
-use apex_num::{Dec, NoMemory, Text};
+use apex_num::{Copied, Dec, NoMemory, Text};
 
 /// A comparison of a formula.
-#[derive(Clone, Copy, Debug, PartialEq, Eq, Hash, Drop)]
+#[derive(Clone, Copy, PartialEq, Eq, Drop)]
 pub enum RuleOp {
     Equal,
     Differs,
@@ -17,7 +17,7 @@ pub enum RuleOp {
 }
 
 /// A value in a formula. Fields are those of the rule's object, by number.
-#[derive(Debug, Drop)]
+#[derive(Drop)]
 pub enum RuleTerm {
     /// The new value of a field.
     Field(usize),
@@ -32,7 +32,7 @@ pub enum RuleTerm {
 }
 
 /// A checked formula. A record is refused where the formula of one of its object's rules holds.
-#[derive(Debug, Drop)]
+#[derive(Drop)]
 pub enum Rule {
     And(Items<Rule>),
     Or(Items<Rule>),
@@ -98,4 +98,10 @@ fn copy_each(list: &Items<Rule>) -> Result<Items<Rule>, NoMemory>
         done.push(rule.copy()?)?;
     }
     Ok(done)
+}
+
+impl Copied for Rule {
+    fn copied(&self) -> Result<Rule, NoMemory> {
+        self.copy()
+    }
 }

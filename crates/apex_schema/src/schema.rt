@@ -2,13 +2,12 @@
 
 ghost use Rattle.std.specs.Prelude.{◌≡◌, IfOk};
 
-use crate::lists::copy_list;
 use crate::rule::Rule;
 use apex_list::Items;
-use apex_num::{NoMemory, Text};
+use apex_num::{Copied, NoMemory, Text, copy_list};
 
 /// What a user may do with a row. The levels rise in this order.
-#[derive(Clone, Copy, Debug, PartialEq, Eq, PartialOrd, Ord, Hash, Drop)]
+#[derive(Clone, Copy, PartialEq, Eq, Drop)]
 pub enum Access {
     /// The user doesn't see the row.
     Nothing,
@@ -19,7 +18,7 @@ pub enum Access {
 }
 
 /// Whether queries and saves look at the access of the user.
-#[derive(Clone, Copy, Debug, PartialEq, Eq, Hash, Drop)]
+#[derive(Clone, Copy, PartialEq, Eq, Drop)]
 pub enum Mode {
     /// They do: `with sharing`.
     Sharing,
@@ -28,7 +27,7 @@ pub enum Mode {
 }
 
 /// A role of the role hierarchy.
-#[derive(Debug, Drop)]
+#[derive(Drop)]
 pub struct Role {
     pub name: Text,
     /// The number of the role above it.
@@ -36,7 +35,7 @@ pub struct Role {
 }
 
 /// A user of the tenant. User number u has the Id `005`, `0000`, `0000` and u + 1.
-#[derive(Debug, Drop)]
+#[derive(Drop)]
 pub struct User {
     pub name: Text,
     /// The number of the user's role.
@@ -44,7 +43,7 @@ pub struct User {
 }
 
 /// What a Lookup or MasterDetail field leads to.
-#[derive(Debug, Drop)]
+#[derive(Drop)]
 pub struct Link {
     /// The number of the object whose rows the field names.
     pub to: usize,
@@ -55,7 +54,7 @@ pub struct Link {
 }
 
 /// How a roll-up sums up its detail rows.
-#[derive(Clone, Copy, Debug, PartialEq, Eq, Hash, Drop)]
+#[derive(Clone, Copy, PartialEq, Eq, Drop)]
 pub enum RollupBy {
     Count,
     Sum,
@@ -64,7 +63,7 @@ pub enum RollupBy {
 }
 
 /// A field that sums up the rows under its row.
-#[derive(Clone, Copy, Debug, PartialEq, Eq, Hash, Drop)]
+#[derive(Clone, Copy, PartialEq, Eq, Drop)]
 pub struct Rollup {
     /// The number of the detail object.
     pub detail: usize,
@@ -74,7 +73,7 @@ pub struct Rollup {
 }
 
 /// What a field holds.
-#[derive(Debug, Drop)]
+#[derive(Drop)]
 pub enum FieldKind {
     Id,
     /// Text of at most so many Unicode scalar values.
@@ -89,7 +88,7 @@ pub enum FieldKind {
 }
 
 /// A field of an object.
-#[derive(Debug, Drop)]
+#[derive(Drop)]
 pub struct Field {
     pub name: Text,
     pub kind: FieldKind,
@@ -98,14 +97,14 @@ pub struct Field {
 }
 
 /// The name and the message of a validation rule.
-#[derive(Debug, Drop)]
+#[derive(Drop)]
 pub struct RuleHead {
     pub name: Text,
     pub message: Text,
 }
 
 /// An object: a kind of rows. `Id` is field 0 and `OwnerId` field 1.
-#[derive(Debug, Drop)]
+#[derive(Drop)]
 pub struct Object {
     pub name: Text,
     /// The first three characters of its rows' Ids.
@@ -119,7 +118,7 @@ pub struct Object {
 }
 
 /// The schema of a tenant. Names are as they were written; they are compared without case.
-#[derive(Debug, Drop)]
+#[derive(Drop)]
 pub struct Schema {
     pub roles: Items<Role>,
     pub users: Items<User>,
@@ -233,5 +232,35 @@ impl Schema {
             users: copy_list(&self.users)?,
             objects: copy_list(&self.objects)?,
         })
+    }
+}
+
+impl Copied for Role {
+    fn copied(&self) -> Result<Role, NoMemory> {
+        self.copy()
+    }
+}
+
+impl Copied for User {
+    fn copied(&self) -> Result<User, NoMemory> {
+        self.copy()
+    }
+}
+
+impl Copied for Object {
+    fn copied(&self) -> Result<Object, NoMemory> {
+        self.copy()
+    }
+}
+
+impl Copied for Field {
+    fn copied(&self) -> Result<Field, NoMemory> {
+        self.copy()
+    }
+}
+
+impl Copied for RuleHead {
+    fn copied(&self) -> Result<RuleHead, NoMemory> {
+        self.copy()
     }
 }

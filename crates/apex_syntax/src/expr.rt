@@ -6,7 +6,7 @@ use apex_list::{Boxed, Items};
 use apex_text::Span;
 
 /// A type as it is written.
-#[derive(Debug, Drop)]
+#[derive(Drop)]
 pub struct TypeTree {
     pub span: Span,
     /// The first name.
@@ -20,7 +20,7 @@ pub struct TypeTree {
 }
 
 /// A literal, or a word that stands for a value.
-#[derive(Debug, Drop)]
+#[derive(Drop)]
 pub enum Literal {
     Number(NumberTree),
     /// The bytes that a text literal stands for, without its quotes and escapes.
@@ -30,7 +30,7 @@ pub enum Literal {
 }
 
 /// A prefix operator.
-#[derive(Clone, Copy, Debug, PartialEq, Eq, Drop)]
+#[derive(Clone, Copy, Drop)]
 pub enum PrefixOp {
     /// `!`
     Not,
@@ -43,7 +43,7 @@ pub enum PrefixOp {
 }
 
 /// A binary operator.
-#[derive(Clone, Copy, Debug, PartialEq, Eq, Drop)]
+#[derive(Clone, Copy, Drop)]
 pub enum BinaryOp {
     /// `||`
     Or,
@@ -72,7 +72,7 @@ pub enum BinaryOp {
 }
 
 /// An operator that assigns.
-#[derive(Clone, Copy, Debug, PartialEq, Eq, Drop)]
+#[derive(Clone, Copy, Drop)]
 pub enum AssignOp {
     /// `=`
     Assign,
@@ -87,7 +87,7 @@ pub enum AssignOp {
 }
 
 /// What stands behind the last part of a postfix expression.
-#[derive(Clone, Copy, Debug, PartialEq, Eq, Drop)]
+#[derive(Clone, Copy, PartialEq, Eq, Drop)]
 pub enum StepOp {
     /// `++`
     Increment,
@@ -96,7 +96,7 @@ pub enum StepOp {
 }
 
 /// An expression.
-#[derive(Debug, Drop)]
+#[derive(Drop)]
 #[cycle(expr)]
 pub enum Expr {
     Literal(Span, Literal),
@@ -122,15 +122,15 @@ pub enum Expr {
 }
 
 /// A binary operator and the operand on its right.
-#[derive(Debug, Drop)]
+#[derive(Drop)]
 #[cycle(expr)]
 pub struct Operand {
     pub op: BinaryOp,
-    pub right: Expr,
+    pub right: Boxed<Expr>,
 }
 
 /// What goes on with a primary expression.
-#[derive(Debug, Drop)]
+#[derive(Drop)]
 #[cycle(expr)]
 pub enum PostfixPart {
     /// A dot and a name.
@@ -138,13 +138,13 @@ pub enum PostfixPart {
     /// A dot, a name and arguments; the span goes from the name on.
     Call(Span, Word, Items<Expr>),
     /// An index in brackets; the span has them.
-    Index(Span, Expr),
+    Index(Span, Boxed<Expr>),
     /// `++` or `--`, which nothing follows.
     Step(Span, StepOp),
 }
 
 /// What stands behind `new` and a type. The spans have the parentheses and braces.
-#[derive(Debug, Drop)]
+#[derive(Drop)]
 #[cycle(expr)]
 pub enum NewPart {
     Args(Span, Items<Expr>),
@@ -154,17 +154,17 @@ pub enum NewPart {
 }
 
 /// `name = expr`
-#[derive(Debug, Drop)]
+#[derive(Drop)]
 #[cycle(expr)]
 pub struct FieldValue {
     pub field: Word,
-    pub value: Expr,
+    pub value: Boxed<Expr>,
 }
 
 /// An item of a new collection, and the value behind its `=>`.
-#[derive(Debug, Drop)]
+#[derive(Drop)]
 #[cycle(expr)]
 pub struct NewItem {
-    pub item: Expr,
-    pub value: Option<Expr>,
+    pub item: Boxed<Expr>,
+    pub value: Option<Boxed<Expr>>,
 }

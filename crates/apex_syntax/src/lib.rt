@@ -1,15 +1,10 @@
-//! The trees of Apex source.
-//!
-//! They are those of queries, expressions, statements and units, with their spans, and in `tree` those of small
-//! blocks: declarations of Integers and `System.debug` over whole numbers (docs/language.md).
+//! The trees of Apex source: those of queries, expressions, statements and units, with their spans (docs/language.md).
 #![tactic(auto)]
 
 mod expr;
 mod nesting;
 mod query;
 mod stmt;
-pub mod tree;
-pub mod typed;
 mod unit;
 mod word;
 
@@ -23,7 +18,6 @@ pub use query::{
     PathTree, QueryTree, SelTree, SelectTree, ValueTree,
 };
 pub use stmt::{Body, Catch, Declarator, DmlOp, ForStart, Stmt};
-pub use tree::{Link, Op};
 pub use unit::{
     ClassModifier, ClassTree, ClassWord, EventOp, EventTree, InterfaceTree, MemberModifier,
     MemberTree, MemberWord, ParamTree, ResultTree, SignatureTree, TriggerTree, Unit,

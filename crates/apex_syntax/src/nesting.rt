@@ -145,7 +145,7 @@ fn values(all: &[ValueTree]) -> usize
 fn field(tree: &FieldValue) -> usize
     ensures { result ≡ spec.field_depth tree.now }
 {
-    expr_depth(&tree.value)
+    expr_depth(tree.value.get())
 }
 
 #[cycle(exprs)]
@@ -153,17 +153,17 @@ fn item(tree: &NewItem) -> usize
     ensures { result ≡ spec.item_depth tree.now }
 {
     let value = match &tree.value {
-        Some(value) => expr_depth(value),
+        Some(value) => expr_depth(value.get()),
         None => 0,
     };
-    expr_depth(&tree.item).max(value)
+    expr_depth(tree.item.get()).max(value)
 }
 
 #[cycle(exprs)]
 fn right(tree: &Operand) -> usize
     ensures { result ≡ spec.operand_depth tree.now }
 {
-    expr_depth(&tree.right)
+    expr_depth(tree.right.get())
 }
 
 #[cycle(exprs)]
@@ -172,7 +172,7 @@ fn part(tree: &PostfixPart) -> usize
 {
     match tree {
         PostfixPart::Call(_, _, args) => opened(exprs(args.as_slice())),
-        PostfixPart::Index(_, inner) => opened(expr_depth(inner)),
+        PostfixPart::Index(_, inner) => opened(expr_depth(inner.get())),
         PostfixPart::Field(_) | PostfixPart::Step(..) => 0,
     }
 }
@@ -273,11 +273,11 @@ fn some_count(tree: &Option<CountTree>) -> usize
 }
 
 #[cycle(exprs)]
-fn some_cond(tree: &Option<CondTree>) -> usize
+fn some_cond(tree: &Option<Boxed<CondTree>>) -> usize
     ensures { result ≡ spec.some (option_map spec.cond_depth tree.now) }
 {
     match tree {
-        Some(inner) => cond(inner),
+        Some(inner) => cond(inner.get()),
         None => 0,
     }
 }

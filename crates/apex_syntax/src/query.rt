@@ -6,7 +6,7 @@ use apex_list::{Boxed, Items};
 use apex_text::Span;
 
 /// A query. Each tree's span goes from its first token to its last one: byte places from 0.
-#[derive(Debug, Drop)]
+#[derive(Drop)]
 #[cycle(expr)]
 pub struct QueryTree {
     pub span: Span,
@@ -14,7 +14,7 @@ pub struct QueryTree {
     /// The object behind `FROM`.
     pub object: Word,
     /// The condition behind `WHERE`.
-    pub cond: Option<CondTree>,
+    pub cond: Option<Boxed<CondTree>>,
     /// `ORDER BY` and its keys.
     pub order: Option<OrderTree>,
     pub limit: Option<CountTree>,
@@ -24,7 +24,7 @@ pub struct QueryTree {
 }
 
 /// What a query selects.
-#[derive(Debug, Drop)]
+#[derive(Drop)]
 #[cycle(expr)]
 pub enum SelectTree {
     /// `COUNT()`
@@ -34,7 +34,7 @@ pub enum SelectTree {
 }
 
 /// An item behind `SELECT`.
-#[derive(Debug, Drop)]
+#[derive(Drop)]
 #[cycle(expr)]
 pub enum SelTree {
     Path(PathTree),
@@ -43,14 +43,14 @@ pub enum SelTree {
 }
 
 /// One to six names with dots between them.
-#[derive(Debug, Drop)]
+#[derive(Drop)]
 pub struct PathTree {
     pub span: Span,
     pub names: Items<Word>,
 }
 
 /// A condition.
-#[derive(Debug, Drop)]
+#[derive(Drop)]
 #[cycle(expr)]
 pub enum CondTree {
     /// Two or more conditions with `AND` between them.
@@ -68,7 +68,7 @@ pub enum CondTree {
 }
 
 /// An operator of a condition.
-#[derive(Clone, Copy, Debug, PartialEq, Eq, Drop)]
+#[derive(Clone, Copy, Drop)]
 pub enum CompareOp {
     /// `=`
     Equal,
@@ -87,7 +87,7 @@ pub enum CompareOp {
 }
 
 /// A value of a condition.
-#[derive(Debug, Drop)]
+#[derive(Drop)]
 #[cycle(expr)]
 pub enum ValueTree {
     /// A number, and whether a `-` stands before it.
@@ -104,7 +104,7 @@ pub enum ValueTree {
 }
 
 /// A number without a sign.
-#[derive(Clone, Copy, Debug, PartialEq, Eq, Drop)]
+#[derive(Clone, Copy, Drop)]
 pub enum NumberTree {
     Integer(i32),
     Long(i64),
@@ -113,7 +113,7 @@ pub enum NumberTree {
 }
 
 /// What stands behind `IN`.
-#[derive(Debug, Drop)]
+#[derive(Drop)]
 #[cycle(expr)]
 pub enum ListTree {
     /// One or more values in parentheses; the span has them.
@@ -122,14 +122,14 @@ pub enum ListTree {
 }
 
 /// `ORDER BY` and one or more keys.
-#[derive(Debug, Drop)]
+#[derive(Drop)]
 pub struct OrderTree {
     pub span: Span,
     pub keys: Items<KeyTree>,
 }
 
 /// A key of an order.
-#[derive(Debug, Drop)]
+#[derive(Drop)]
 pub struct KeyTree {
     pub span: Span,
     pub path: PathTree,
@@ -140,7 +140,7 @@ pub struct KeyTree {
 }
 
 /// What stands behind `LIMIT` and `OFFSET`.
-#[derive(Debug, Drop)]
+#[derive(Drop)]
 #[cycle(expr)]
 pub enum CountTree {
     /// An Integer literal.
@@ -149,7 +149,7 @@ pub enum CountTree {
 }
 
 /// A bind: a colon and an expression.
-#[derive(Debug, Drop)]
+#[derive(Drop)]
 #[cycle(expr)]
 pub enum BindTree {
     /// Its tokens, where they are kept as they are.
@@ -159,7 +159,7 @@ pub enum BindTree {
 }
 
 /// The tokens of a bind: the first is the colon, and the expression stands behind that.
-#[derive(Clone, Copy, Debug, PartialEq, Eq, Drop)]
+#[derive(Clone, Copy, Drop)]
 pub struct BindRange {
     pub span: Span,
     /// The place of the colon among the tokens, from 0.

@@ -6,7 +6,7 @@ use apex_list::{Boxed, Items};
 use apex_text::Span;
 
 /// Statements in braces; the span has them.
-#[derive(Debug, Drop)]
+#[derive(Drop)]
 #[cycle(stmt)]
 pub struct Body {
     pub span: Span,
@@ -14,7 +14,7 @@ pub struct Body {
 }
 
 /// A statement.
-#[derive(Debug, Drop)]
+#[derive(Drop)]
 #[cycle(stmt)]
 pub enum Stmt {
     Block(Body),
@@ -43,14 +43,14 @@ pub enum Stmt {
 }
 
 /// A name of a declaration, and its value.
-#[derive(Debug, Drop)]
+#[derive(Drop)]
 pub struct Declarator {
     pub name: Word,
     pub value: Option<Boxed<Expr>>,
 }
 
 /// What stands before the first `;` of a `for`.
-#[derive(Debug, Drop)]
+#[derive(Drop)]
 pub enum ForStart {
     Nothing,
     /// Each name has a value.
@@ -59,7 +59,7 @@ pub enum ForStart {
 }
 
 /// `catch (class name) { .. }`
-#[derive(Debug, Drop)]
+#[derive(Drop)]
 #[cycle(stmt)]
 pub struct Catch {
     pub span: Span,

@@ -7,7 +7,7 @@ use apex_list::{Boxed, Items};
 use apex_text::Span;
 
 /// A class, an interface, a trigger, or the statements of an anonymous block.
-#[derive(Debug, Drop)]
+#[derive(Drop)]
 pub enum Unit {
     Class(ClassTree),
     Interface(InterfaceTree),
@@ -16,7 +16,7 @@ pub enum Unit {
 }
 
 /// A class.
-#[derive(Debug, Drop)]
+#[derive(Drop)]
 pub struct ClassTree {
     pub span: Span,
     /// As they are written: one may be repeated, and one may contradict another.
@@ -30,14 +30,14 @@ pub struct ClassTree {
 }
 
 /// A modifier of a class or an interface.
-#[derive(Clone, Copy, Debug, PartialEq, Eq, Drop)]
+#[derive(Clone, Copy, Drop)]
 pub struct ClassModifier {
     pub span: Span,
     pub word: ClassWord,
 }
 
 /// What a modifier of a class says.
-#[derive(Clone, Copy, Debug, PartialEq, Eq, Drop)]
+#[derive(Clone, Copy, Drop)]
 pub enum ClassWord {
     Public,
     Global,
@@ -53,7 +53,7 @@ pub enum ClassWord {
 }
 
 /// A member of a class. The span has the modifiers.
-#[derive(Debug, Drop)]
+#[derive(Drop)]
 pub enum MemberTree {
     /// A field, and the value behind its `=`.
     Field(Span, Items<MemberModifier>, TypeTree, Word, Option<Boxed<Expr>>),
@@ -65,14 +65,14 @@ pub enum MemberTree {
 }
 
 /// A modifier of a member.
-#[derive(Clone, Copy, Debug, PartialEq, Eq, Drop)]
+#[derive(Clone, Copy, Drop)]
 pub struct MemberModifier {
     pub span: Span,
     pub word: MemberWord,
 }
 
 /// What a modifier of a member says.
-#[derive(Clone, Copy, Debug, PartialEq, Eq, Drop)]
+#[derive(Clone, Copy, PartialEq, Eq, Drop)]
 pub enum MemberWord {
     Public,
     Global,
@@ -86,7 +86,7 @@ pub enum MemberWord {
 }
 
 /// What a method answers.
-#[derive(Debug, Drop)]
+#[derive(Drop)]
 pub enum ResultTree {
     /// `void`
     Void(Span),
@@ -94,7 +94,7 @@ pub enum ResultTree {
 }
 
 /// A parameter.
-#[derive(Debug, Drop)]
+#[derive(Drop)]
 pub struct ParamTree {
     pub span: Span,
     pub kind: TypeTree,
@@ -102,7 +102,7 @@ pub struct ParamTree {
 }
 
 /// An interface.
-#[derive(Debug, Drop)]
+#[derive(Drop)]
 pub struct InterfaceTree {
     pub span: Span,
     /// `public` or `global`
@@ -112,7 +112,7 @@ pub struct InterfaceTree {
 }
 
 /// A method of an interface; the span has its `;`.
-#[derive(Debug, Drop)]
+#[derive(Drop)]
 pub struct SignatureTree {
     pub span: Span,
     pub result: ResultTree,
@@ -121,7 +121,7 @@ pub struct SignatureTree {
 }
 
 /// A trigger.
-#[derive(Debug, Drop)]
+#[derive(Drop)]
 pub struct TriggerTree {
     pub span: Span,
     pub name: Word,
@@ -132,7 +132,7 @@ pub struct TriggerTree {
 }
 
 /// An event of a trigger.
-#[derive(Clone, Copy, Debug, PartialEq, Eq, Drop)]
+#[derive(Clone, Copy, Drop)]
 pub struct EventTree {
     pub span: Span,
     /// `after`, and not `before`
@@ -141,7 +141,7 @@ pub struct EventTree {
 }
 
 /// What is done to records where an event is met.
-#[derive(Clone, Copy, Debug, PartialEq, Eq, Drop)]
+#[derive(Clone, Copy, PartialEq, Eq, Drop)]
 pub enum EventOp {
     Insert,
     Update,

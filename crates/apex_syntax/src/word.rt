@@ -3,7 +3,7 @@
 use apex_text::{Name, Span};
 
 /// A name and where it is written: byte places from 0.
-#[derive(Debug, Drop)]
+#[derive(Drop)]
 pub struct Word {
     pub span: Span,
     /// The name, folded.

@@ -3,21 +3,21 @@ use Rattle.std.proofs.Common.{◌≡◌, ℕ, List, [], ◌∷◌, map, Result, 
 use Rattle.std.specs.Result.{IsErr, IsErrAnd}
 use Rattle.apex_schema.specs.declared.schema.Object.{Object}
 use Rattle.apex_syntax.specs.declared.unit.Unit.{Unit as Tree}
-use Rattle.body_walk.specs.Homes.{Home}
-use Rattle.class_heads.specs.declared.head.ClassHead.{ClassHead}
-use Rattle.class_heads.specs.Heads.{known_of, heads_of}
-use Rattle.class_members.specs.declared.member.ClassMembers.{ClassMembers}
-use Rattle.class_members.specs.declared.table.MemberTable.{MemberTable}
-use Rattle.class_members.specs.Members.{members_among}
-use Rattle.class_members.specs.Tables.{members_of}
-use Rattle.method_calls.specs.MethodNamings.{names_of_table}
-use Rattle.schema_places.specs.Names.{object_names}
+use Rattle.apex_types.specs.Homes.{Home}
+use Rattle.class_tables.specs.declared.head.ClassHead.{ClassHead}
+use Rattle.class_tables.specs.Heads.{known_of, heads_of}
+use Rattle.class_tables.specs.declared.member.ClassMembers.{ClassMembers}
+use Rattle.class_tables.specs.declared.table.MemberTable.{MemberTable}
+use Rattle.class_tables.specs.Members.{members_among}
+use Rattle.class_tables.specs.Tables.{members_of}
+use Rattle.method_calls.specs.MethodNamings.{Namings, names_of_table}
+use Rattle.record_words.specs.Names.{object_names}
 use Rattle.type_names.specs.declared.fault.TreeFault.{TreeFault}
 use Rattle.type_names.specs.TypeTrees.{Known}
 use Rattle.typed_program.specs.declared.unit.TypedUnit.{TypedUnit}
 use Rattle.apex_types.specs.declared.fault.CheckFault.{CheckFault}
 use Rattle.apex_types.specs.declared.fault.CheckFault.TheVariants as C
-use Rattle.tenant_parts.specs.declared.program.Program.{Program}
+use Rattle.typed_program.specs.declared.program.Program.{Program}
 use Rattle.apex_types.specs.Checks.{Check, Gives, Comes, next, naming, home_of, code_of, program_with, checked}
 
 names_in_tables : (tables : List MemberTable) → map naming (map members_of tables) ≡ map names_of_table tables
@@ -25,10 +25,10 @@ names_in_tables [] = refl
 names_in_tables (t ∷ ts) = ap (λ l. names_of_table t ∷ l) (names_in_tables ts)
 
 -- what code sees, part by part
-abbrev pub home_with : Known → List ClassHead → List ClassMembers → List Object → List (List (List ℕ)) → Home
+abbrev pub home_with : Known → List ClassHead → List ClassMembers → List Object → Namings → Home
 home_with names heads members objects methods = record { names = names; heads = heads; members = members; objects = objects; methods = methods }
 
-pub home_is : (objects : List Object) (names : List (List ℕ)) (units : List Tree) (known : Known) (heads : List ClassHead) (tables : List MemberTable) (methods : List (List (List ℕ)))
+pub home_is : (objects : List Object) (names : List (List ℕ)) (units : List Tree) (known : Known) (heads : List ClassHead) (tables : List MemberTable) (methods : Namings)
     → names ≡ object_names objects → known ≡ known_of names units → heads ≡ heads_of names units → map members_of tables ≡ members_among (known_of names units) units → methods ≡ map names_of_table tables
     → home_with known heads (map members_of tables) objects methods ≡ home_of objects units
 home_is objects names units known heads tables methods e k h m n =
@@ -40,19 +40,12 @@ home_is objects names units known heads tables methods e k h m n =
 
 module _ (objects : List Object) (units blocks : List Tree) where
   pub code_fails : (fault : CheckFault) → Comes (code_of objects units blocks) (Err fault) → Comes (checked objects units blocks) (Err fault)
-  code_fails (C.Wrong fault) h = ap (λ w. next w (λ code. Gives (program_with (home_of objects units) code))) h
+  code_fails (C.Wrong fault) h = ap (λ w. next w (λ code. Gives (program_with code))) h
   code_fails C.NoMemory h = tt
 
-  abbrev pub program_of : List ClassHead → List ClassMembers → List TypedUnit → List (Result TypedUnit TreeFault) → Program
-  program_of heads members made forms = record { heads = heads; members = members; units = made; blocks = forms }
-
-  pub program_is : (heads : List ClassHead) (members : List ClassMembers) (made : List TypedUnit) (forms : List (Result TypedUnit TreeFault))
-      → code_of objects units blocks ≡ Gives (made, forms) → heads ≡ heads_of (object_names objects) units → members ≡ members_among (known_of (object_names objects) units) units
-      → checked objects units blocks ≡ Gives (record { heads = heads; members = members; units = made; blocks = forms })
-  program_is heads members made forms e h m =
-      ap (λ w. next w (λ code. Gives (program_with (home_of objects units) code))) e
-      ∙ ap (λ x. Gives (program_of x (members_among (known_of (object_names objects) units) units) made forms)) (sym h)
-      ∙ ap (λ x. Gives (program_of heads x made forms)) (sym m)
+  pub program_is : (made : List TypedUnit) (forms : List (Result TypedUnit TreeFault))
+      → code_of objects units blocks ≡ Gives (made, forms) → checked objects units blocks ≡ Gives (record { units = made; blocks = forms })
+  program_is made forms e = ap (λ w. next w (λ code. Gives (program_with code))) e
 
 -- ---- faults that are handed on
 

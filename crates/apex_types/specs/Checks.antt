@@ -1,24 +1,24 @@
 -- The checker as a whole (docs/language.md, "Programs").
 use Rattle.std.specs.Prelude.{◌≡◌, ℕ, ◌+◌, Bool, true, false, cond, List, [], ◌∷◌, ◌++◌, map, Result, Ok, Err, ⊤}
-use Rattle.apex_schema.specs.declared.reply.FaultWord.TheVariants.{Expected}
+use Rattle.fault_words.specs.declared.fault.FaultWord.TheVariants.{Expected}
 use Rattle.apex_schema.specs.declared.schema.Object.{Object}
 use Rattle.apex_syntax.specs.declared.unit.Unit.{Unit as Tree}
 use Rattle.apex_syntax.specs.declared.unit.Unit.TheVariants as U
-use Rattle.body_walk.specs.Homes.{Home}
-use Rattle.class_heads.specs.Heads.{known_of, heads_of}
-use Rattle.class_members.specs.declared.member.ClassMembers.{ClassMembers}
-use Rattle.class_members.specs.Members.{members_among}
-use Rattle.method_calls.specs.MethodNamings.{method_names}
-use Rattle.schema_places.specs.Names.{object_names}
+use Rattle.apex_types.specs.Homes.{Home}
+use Rattle.class_tables.specs.Heads.{known_of, heads_of}
+use Rattle.class_tables.specs.declared.member.ClassMembers.{ClassMembers}
+use Rattle.class_tables.specs.Members.{members_among}
+use Rattle.method_calls.specs.MethodNamings.{ClassNames, names_of_methods}
+use Rattle.record_words.specs.Names.{object_names}
 use Rattle.type_names.specs.declared.fault.TreeFault.{TreeFault}
 use Rattle.type_names.specs.Walks.{Walk, wrong}
 use Rattle.type_names.specs.Walks as W
 use Rattle.typed_program.specs.declared.unit.TypedUnit.{TypedUnit}
-use Rattle.unit_walk.specs.Units.{unit_step, block_step}
+use Rattle.apex_types.specs.Units.{unit_step, block_step}
 use Rattle.apex_types.specs.declared.fault.CheckFault.{CheckFault}
 use Rattle.apex_types.specs.declared.fault.CheckFault.TheVariants as C
 use Rattle.apex_types.specs.declared.fault.TypeFault.{TypeFault}
-use Rattle.tenant_parts.specs.declared.program.Program.{Program}
+use Rattle.typed_program.specs.declared.program.Program.{Program}
 
 -- ---- what the check of units comes to: something, or the first fault with the number of its unit
 
@@ -41,8 +41,8 @@ Comes check (Err fault) = Fails check fault
 
 -- ---- what all code of these objects and units sees
 
-abbrev pub naming : ClassMembers → List (List ℕ)
-naming m = method_names m.methods
+abbrev pub naming : ClassMembers → ClassNames
+naming m = names_of_methods m.methods
 
 abbrev pub home_of : List Object → List Tree → Home
 home_of objects units = record {
@@ -101,8 +101,8 @@ typed_units objects units = units_from (object_names objects) units (home_of obj
 abbrev pub code_of : List Object → List Tree → List Tree → Check (List TypedUnit × List (Result TypedUnit TreeFault))
 code_of objects units blocks = next (typed_units objects units) (λ made. Gives (made, map (block_of (home_of objects units)) blocks))
 
-abbrev pub program_with : Home → List TypedUnit × List (Result TypedUnit TreeFault) → Program
-program_with h code = record { heads = h.heads; members = h.members; units = code.0; blocks = code.1 }
+abbrev pub program_with : List TypedUnit × List (Result TypedUnit TreeFault) → Program
+program_with code = record { units = code.0; blocks = code.1 }
 
 abbrev pub checked : List Object → List Tree → List Tree → Check Program
-checked objects units blocks = next (code_of objects units blocks) (λ code. Gives (program_with (home_of objects units) code))
+checked objects units blocks = next (code_of objects units blocks) (λ code. Gives (program_with code))

@@ -1,1 +1,7 @@
+pub mod Homes
+pub mod Bodies
+pub mod Constructors
+pub mod OpenClasses
+pub mod Members
+pub mod Units
 pub mod Checks

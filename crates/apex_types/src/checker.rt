@@ -1,31 +1,29 @@
 // The check of a tenant's code.
 
 ghost use Rattle.std.specs.Prelude.{◌≡◌, [], map, IfOk};
-ghost use Rattle.body_walk.specs.Homes.{home as home_in};
-ghost use Rattle.class_members.specs.Members.{members_among};
-ghost use Rattle.class_members.specs.Tables.{all_in, members_of};
-ghost use Rattle.class_heads.specs.Heads.{known_of};
+ghost use Rattle.apex_types.specs.Homes.{home as home_in};
+ghost use Rattle.class_tables.specs.Members.{members_among};
+ghost use Rattle.class_tables.specs.Tables.{all_in, members_of};
+ghost use Rattle.class_tables.specs.Heads.{known_of};
 ghost use Rattle.method_calls.specs.MethodNamings.{namings, names_of_table};
-ghost use Rattle.schema_places.specs.Names.{object_names};
+ghost use Rattle.record_words.specs.Names.{object_names};
 ghost use Rattle.type_names.specs.Walks.{Comes};
 ghost use Rattle.apex_types.specs.Checks as spec;
 
 use crate::fault::{CheckFault, TypeFault};
-use apex_list::Items;
+use crate::home::Home;
+use crate::units::{block_unit, unit};
+use apex_list::{Boxed, Items};
 use apex_num::NoMemory;
-use apex_schema::{FaultWord, Schema};
+use apex_schema::Schema;
 use apex_syntax::Unit;
-use body_walk::Home;
-use class_heads::Classes;
-use class_members::{ClassMembers, MemberTable, MemberTables};
+use class_tables::{Classes, MemberTables};
+use fault_words::FaultWord;
 use method_calls::MethodNames;
-use record_words::RecordWords;
-use schema_places::object_places;
+use record_words::{RecordWords, object_places};
 use std::alloc::{AllocError, Global};
-use tenant_parts::Program;
 use type_names::{TreeFault, WalkFault};
-use typed_program::TypedUnit;
-use unit_walk::{block_unit, unit};
+use typed_program::{Program, TypedUnit};
 
 fn is_class(tree: &Unit) -> bool
     ensures { result ≡ spec.is_class tree.now }
@@ -43,7 +41,7 @@ fn unit_of(
     number: usize,
     class: usize,
     tree: &Unit,
-) -> Result<TypedUnit, CheckFault>
+) -> Result<Boxed<TypedUnit>, CheckFault>
     ensures { spec.Comes (spec.unit_of classes.now.objects.now.names.items classes.now.units.now (home_in home.now) number class tree.now) result }
 {
     match unit(alloc, classes, home, number, class, tree) {
@@ -67,7 +65,8 @@ fn units_of(
     let mut made = Items::new(alloc);
     let mut class: usize = 0;
     for i in 0..trees.len() {
-        made.push(unit_of(alloc, classes, home, i, class, &trees[i])?)?;
+        let unit = unit_of(alloc, classes, home, i, class, &trees[i])?;
+        made.push(unit.into_value())?;
         if is_class(&trees[i]) {
             class += 1;
         }
@@ -75,7 +74,7 @@ fn units_of(
     Ok(made)
 }
 
-fn walked_block(alloc: Global, home: &Home, tree: &Unit) -> Result<TypedUnit, WalkFault>
+fn walked_block(alloc: Global, home: &Home, tree: &Unit) -> Result<Boxed<TypedUnit>, WalkFault>
     ensures { Comes (spec.block_walk (home_in home.now) tree.now) result }
 {
     match tree {
@@ -88,13 +87,23 @@ fn block_of(
     alloc: Global,
     home: &Home,
     tree: &Unit,
-) -> Result<Result<TypedUnit, TreeFault>, NoMemory>
+) -> Result<Result<Boxed<TypedUnit>, TreeFault>, NoMemory>
     ensures { IfOk result (λ b. b ≡ spec.block_of (home_in home.now) tree.now) }
 {
     match walked_block(alloc, home, tree) {
         Ok(made) => Ok(Ok(made)),
         Err(WalkFault::Wrong(fault)) => Ok(Err(fault)),
         Err(WalkFault::NoMemory) => Err(AllocError),
+    }
+}
+
+// What a box has, where there is one.
+fn bare(made: Result<Boxed<TypedUnit>, TreeFault>) -> Result<TypedUnit, TreeFault>
+    ensures { result ≡ made }
+{
+    match made {
+        Ok(unit) => Ok(unit.into_value()),
+        Err(fault) => Err(fault),
     }
 }
 
@@ -107,17 +116,8 @@ fn blocks_of(
 {
     let mut all = Items::new(alloc);
     for tree in trees {
-        all.push(block_of(alloc, home, tree)?)?;
-    }
-    Ok(all)
-}
-
-fn all_members(alloc: Global, tables: Items<MemberTable>) -> Result<Items<ClassMembers>, NoMemory>
-    ensures { IfOk result (λ all. all ≡ map members_of tables) }
-{
-    let mut all = Items::new(alloc);
-    for table in tables.into_vec() {
-        all.push(table.into_members())?;
+        let made = block_of(alloc, home, tree)?;
+        all.push(bare(made))?;
     }
     Ok(all)
 }
@@ -179,8 +179,6 @@ pub fn check(
     let members = MemberTables::of(alloc, &classes)?;
     let (made, forms) = code_of(alloc, &classes, &members, &words, blocks)?;
     Ok(Program {
-        members: all_members(alloc, members.tables)?,
-        heads: classes.into_heads(),
         units: made,
         blocks: forms,
     })

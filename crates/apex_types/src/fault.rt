@@ -7,7 +7,7 @@ use thiserror::Error;
 use type_names::TreeFault;
 
 /// A fault of a unit.
-#[derive(Clone, Copy, Debug, PartialEq, Eq, Hash, Drop)]
+#[derive(Clone, Copy, Debug, PartialEq, Eq, Drop)]
 pub struct TypeFault {
     /// The number of the unit, from 0.
     pub unit: usize,
@@ -16,7 +16,7 @@ pub struct TypeFault {
 }
 
 /// Why units are no program.
-#[derive(Clone, Copy, Debug, PartialEq, Eq, Hash, Drop, Error)]
+#[derive(Clone, Copy, Debug, PartialEq, Eq, Drop, Error)]
 pub enum CheckFault {
     /// The first fault.
     #[error("a unit has a fault")]

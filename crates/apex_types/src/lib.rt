@@ -1,9 +1,16 @@
 //! The checker: from the trees of a tenant's units and blocks to a typed program, or the first fault.
 #![tactic(auto)]
 
+mod body;
 mod checker;
+mod class;
+mod constructor;
 mod fault;
+mod home;
+mod member;
+mod open;
+mod units;
 
 pub use checker::check;
 pub use fault::{CheckFault, TypeFault};
-pub use tenant_parts::Program;
+pub use typed_program::Program;

@@ -1,15 +1,8 @@
-//! `apexd`: a compiler and runtime for Apex. So far it runs one small block, and the requests of a bundle's only session where
-//! its tenant is of a form that is built.
+//! `apexd`: a compiler and runtime for Apex. It runs the command that its words say, on standard input and output.
 #![tactic(auto)]
 
-mod command;
-#[cfg(test)]
-mod tests;
-
 use apex_io::{StdSink, StdSource};
-use apex_list::Items;
-use bundle_turns::Book;
-use command::{Kept, top};
+use commands::{Kept, top};
 use std::env;
 use std::io::ErrorKind;
 use std::process::ExitCode;
@@ -36,12 +29,6 @@ fn main(rt: HostRuntime) -> ExitCode {
     }
     let mut source = StdSource::new(rt.stdin());
     let mut sink = StdSink::new(rt.stdout());
-    let mut kept = Kept {
-        image: None,
-        book: Book {
-            images: Items::new(rt.alloc()),
-            trails: Items::new(rt.alloc()),
-        },
-    };
+    let mut kept = Kept::new(rt.alloc());
     ExitCode::from(top(rt.alloc(), &words, &mut source, &mut sink, &mut kept))
 }

@@ -7,9 +7,10 @@
 use apex_io::{StdSource, read_all};
 use apex_num::{Cell, Text, read_dec, read_id};
 use apex_text::Name;
-use builtin_table::{Builtin, BuiltinEnd, call_builtin, signature, text_of, text_size};
-use date_methods::read_stamp;
-use date_values::date_of;
+use builtin_names::signature;
+use builtin_sizes::text_size;
+use builtin_table::{Builtin, BuiltinEnd, call_builtin, text_of};
+use civil_dates::{read_date, read_stamp};
 use std::alloc::{AllocError, Global};
 use std::process::ExitCode;
 
@@ -22,7 +23,7 @@ fn marked(alloc: Global, mark: u8, rest: &str) -> Result<Option<Cell>, AllocErro
         b'\'' => Some(Cell::Text(Text::from_str(alloc, rest)?)),
         b'm' => read_dec(rest.as_bytes()).ok().map(Cell::Num),
         b'i' => read_id(rest.as_bytes()).map(Cell::Id),
-        b'd' => date_of(rest.as_bytes()).map(Cell::Day),
+        b'd' => read_date(rest.as_bytes()).map(Cell::Day),
         b't' => read_stamp(rest.as_bytes()).map(Cell::Moment),
         _ => None,
     })

@@ -1,5 +1,5 @@
 -- What the arguments of built-in methods have to fit (docs/language.md, "Built-in methods").
-use Rattle.std.specs.Prelude.{ℕ, List, [], ◌∷◌, replicate}
+use Rattle.std.specs.Prelude.{List, [], ◌∷◌, replicate}
 use Rattle.builtin_table.specs.declared.method.Builtin.{Builtin}
 use Rattle.builtin_table.specs.declared.method.Builtin.TheVariants as B
 use Rattle.builtin_table.specs.declared.method.DateMethod.{DateMethod}

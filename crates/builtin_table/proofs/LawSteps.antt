@@ -1,16 +1,14 @@
 -- The laws of the methods whose definitions stand in `Meanings`.
-use Rattle.std.proofs.Common.{arith, ◌≡◌, ◌≢◌, ◌⊎◌, ◌<◌, ◌≤◌, ◌+◌, ◌*◌, ◌%◌, ◌^◌, ◌&&◌, ℕ, zero, suc, Bool, true, false, cond, ltb, lt-ltb, eqb, eqb-true, ℤ, pos, negsuc, neg_ℤ, ◌+ℤ◌, ◌*ℤ◌, ◌≤ℤ◌, unsigned_abs, int_rem, int_lt, List, [], ◌∷◌, length, take, chars, bytes_eq, Option, Some, None, inl, inr, refl, sym, ap, ◌∙◌}
-use Rattle.std.specs.Int.{int_max, int_min}
+use Rattle.std.proofs.Common.{arith, ◌≡◌, ◌≢◌, ◌⊎◌, ◌<◌, ◌%◌, ◌^◌, ◌&&◌, ℕ, zero, suc, Bool, true, false, cond, lt-ltb, eqb, eqb-true, ℤ, pos, negsuc, neg_ℤ, ◌*ℤ◌, unsigned_abs, List, length, take, chars, bytes_eq, Some, None, inl, inr, refl, sym, ap, ◌∙◌}
 use Rattle.std.specs.declared.cmp.Ordering.TheVariants.{Less, Equal, Greater}
 use Rattle.std.proofs.lemmas.Int.{ints, quot-rem, rem_below, int_max_is, int_min_is}
 use Rattle.std.proofs.lemmas.Bool.{and_parts}
 use Rattle.std.proofs.lemmas.List.{nil_from_length}
 use Rattle.std.proofs.lemmas.Slice.Eq.{bytes_eq-Decides}
 use Rattle.std.proofs.lemmas.Str.{chars-nil}
-use Rattle.apex_num.specs.Ids.{long_id}
+use Rattle.apex_num.specs.Ids.{long_id, is_id}
 use Rattle.apex_num.specs.declared.cell.Cell.TheVariants as Cells
 use Rattle.text_methods.specs.Texts.{is_blank}
-use Rattle.builtin_table.specs.Meanings.{size_within, sign_of, compared, blank, empty, is_id, is_alphanumeric, id_value}
 use Rattle.builtin_table.specs.Laws.{SignAndSize, SizeOfType, GreatestAndLeast, RestOfQuotient, RestHasSign, ComparedBack, EmptyIsBlank, IdOfText}
 
 sign_by : (n : ℕ) (b : Bool) → eqb n 0 ≡ b → cond b (pos 0) (pos 1) *ℤ pos n ≡ pos n

@@ -1,4 +1,2 @@
 mod Facts
-mod Sizes
-mod Tables
 mod LawSteps

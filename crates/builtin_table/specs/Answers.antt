@@ -1,7 +1,6 @@
 -- Answers of methods, and the exceptions that they throw (docs/language.md, "Built-in methods").
-use Rattle.std.specs.Prelude.{◌≡◌, ℕ, List, ◌++◌, length, codes, min, ◌^◌, ◌-◌, Option, None, Some, Result, Ok, Err, ⊤}
+use Rattle.std.specs.Prelude.{◌≡◌, List, [], ◌++◌, ℕ, codes, Result, Ok, Err, ⊤}
 use Rattle.apex_num.specs.declared.cell.Cell.{Cell}
-use Rattle.apex_num.specs.declared.cell.Cell.TheVariants as Cells
 use Rattle.builtin_table.specs.declared.exception.ExceptionClass.{ExceptionClass}
 use Rattle.builtin_table.specs.declared.exception.ExceptionClass.TheVariants as Class
 use Rattle.builtin_table.specs.declared.exception.BuiltinEnd.{BuiltinEnd}
@@ -35,6 +34,11 @@ abbrev pub Answers : Answer → Result Cell BuiltinEnd → Type 0
 Answers a (Ok c) = a ≡ Gives c
 Answers a (Err end) = Fails a end
 
+-- the message of what is thrown
+abbrev pub message_of : Answer → List ℕ
+message_of (Throws class message) = message
+message_of (Gives c) = []
+
 -- ---- what is thrown
 
 abbrev pub divide_by_zero : Answer
@@ -61,10 +65,3 @@ invalid_date = Throws Class.Type (codes "Invalid date")
 -- arguments that aren't of the method's types; checked code hands in none
 abbrev pub invalid_conversion : Answer
 invalid_conversion = Throws Class.Type (codes "Invalid conversion")
-
--- ---- the size of an answer
-
--- the bytes of the text that is given, 2^64 - 1 where there are more; none where no text is
-abbrev pub sized : Answer → Option ℕ
-sized (Gives (Cells.Text text)) = Some (min (length text) (2 ^ 64 - 1))
-sized _ = None

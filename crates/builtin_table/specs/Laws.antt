@@ -1,11 +1,11 @@
 -- Laws of the methods whose definitions stand in `Meanings` (docs/language.md, "Built-in methods").
-use Rattle.std.specs.Prelude.{◌≡◌, ◌≢◌, ◌⊎◌, ℕ, ◌*◌, ◌+◌, ◌%◌, ◌^◌, ◌<◌, List, length, not, true, ℤ, pos, neg_ℤ, ◌+ℤ◌, ◌*ℤ◌, ◌≤ℤ◌, unsigned_abs, int_div, int_rem, Option, Some}
+use Rattle.std.specs.Prelude.{◌≡◌, ◌≢◌, ◌⊎◌, ℕ, ◌%◌, ◌^◌, ◌<◌, List, length, true, ℤ, pos, neg_ℤ, ◌+ℤ◌, ◌*ℤ◌, ◌≤ℤ◌, unsigned_abs, int_div, int_rem, Some}
 use Rattle.std.specs.Int.{int_max, int_min}
 use Rattle.std.specs.Ordering.{ordering_reverse}
 use Rattle.std.specs.declared.cmp.Ordering.{Ordering}
-use Rattle.apex_num.specs.Ids.{long_id}
+use Rattle.apex_num.specs.Ids.{long_id, id_value}
 use Rattle.apex_num.specs.declared.cell.Cell.{Cell}
-use Rattle.builtin_table.specs.Meanings.{size_within, sign_of, compared, blank, empty, id_value}
+use Rattle.builtin_table.specs.Meanings.{size_within, sign_of, compared, blank, empty}
 
 -- `Math.abs` and `Math.signum`: the sign and the size are the number
 abbrev pub SignAndSize : Type 0

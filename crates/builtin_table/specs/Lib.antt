@@ -1,5 +1,4 @@
 pub mod Answers
 pub mod Meanings
-pub mod Names
 pub mod Shown
 pub mod Laws

@@ -1,7 +1,7 @@
 -- What each method answers (docs/language.md, "Built-in methods"). The first of the arguments is the receiver, where there
 -- is one.
-use Rattle.std.specs.Prelude.{ℕ, zero, ◌/◌, ◌%◌, ◌^◌, ◌&&◌, ◌||◌, not, nat_lt, nat_le, eqb, cond, Bool, true, false, List, [], ◌∷◌, length, take, drop, map, reverse, chars, encode_utf8_all, bytes_eq, ℤ, pos, negsuc, ◌+ℤ◌, ◌-ℤ◌, ◌*ℤ◌, unsigned_abs, int_rem, Option, None, Some, Result, Ok, Err, is_some}
-use Rattle.std.specs.List.{list_all, list_any}
+use Rattle.std.specs.Prelude.{ℕ, zero, ◌/◌, ◌%◌, ◌^◌, not, nat_lt, nat_le, eqb, cond, Bool, true, false, List, [], ◌∷◌, length, take, drop, map, reverse, chars, encode_utf8_all, bytes_eq, ℤ, pos, negsuc, ◌+ℤ◌, ◌-ℤ◌, ◌*ℤ◌, unsigned_abs, int_rem, Option, None, Some, Result, Ok, Err, is_some}
+use Rattle.std.specs.List.{list_any}
 use Rattle.std.specs.Char.{to_ascii_uppercase, to_ascii_lowercase}
 use Rattle.std.specs.Str.{str_eq_ignore_ascii_case}
 use Rattle.std.specs.Int.{int_max, int_min, int_wrap, w32}
@@ -13,11 +13,11 @@ use Rattle.apex_num.specs.declared.cell.Cell.{Cell}
 use Rattle.apex_num.specs.declared.cell.Cell.TheVariants as Cells
 use Rattle.apex_num.specs.declared.dec.NumFault.{NumFault}
 use Rattle.apex_num.specs.Decimals.{dec_text}
-use Rattle.apex_num.specs.Ids.{long_id}
+use Rattle.apex_num.specs.Ids.{id_value}
 use Rattle.number_methods.specs.Methods.{whole_of}
 use Rattle.number_methods.specs.Values.{whole_value, decimal_value, without_l, only_if, integer_fits, long_fits, decimal_fits, half_even, scaled, in_range}
-use Rattle.date_values.specs.Values.{date_value}
-use Rattle.date_methods.specs.Values as dates
+use Rattle.civil_dates.specs.Texts.{date_value, stamp_value}
+use Rattle.civil_dates.specs.Dates as dates
 use Rattle.text_methods.specs.Texts as texts
 use Rattle.builtin_table.specs.Answers.{Answer, Gives, divide_by_zero, out_of_range, null_object, out_of_bounds, invalid_id, invalid_number, invalid_date, invalid_conversion}
 use Rattle.builtin_table.specs.Shown.{shown}
@@ -127,16 +127,6 @@ nullable_meaning N.IsNotEmpty c = truth (not (empty c))
 
 -- ---- reading
 
-abbrev pub is_alphanumeric : ℕ → Bool
-is_alphanumeric c = (nat_le 48 c && nat_le c 57) || ((nat_le 65 c && nat_le c 90) || (nat_le 97 c && nat_le c 122))
-
-abbrev pub is_id : List ℕ → Bool
-is_id bs = eqb (length bs) 15 && list_all is_alphanumeric bs
-
--- an Id of 15 characters, or of 18 with its right check characters
-abbrev pub id_value : List ℕ → Option (List ℕ)
-id_value bs = cond (is_id bs) (Some bs) (cond (is_id (take 15 bs) && bytes_eq bs (long_id (take 15 bs))) (Some (take 15 bs)) None)
-
 abbrev pub whole_or : Option ℤ → Answer → Answer
 whole_or (Some z) else' = number z
 whole_or None else' = else'
@@ -162,7 +152,7 @@ read_meaning R.Integer s = whole_or (only_if integer_fits (whole_value s)) (inva
 read_meaning R.Long s = whole_or (only_if long_fits (whole_value (without_l s))) (invalid_number s)
 read_meaning R.Decimal s = decimal_or (only_if decimal_fits (decimal_value s)) (invalid_number s)
 read_meaning R.Date s = day_or (date_value s)
-read_meaning R.Moment s = moment_or (dates.stamp_value s)
+read_meaning R.Moment s = moment_or (stamp_value s)
 read_meaning R.Id s = id_or (id_value s) (invalid_id s)
 
 -- ---- numbers

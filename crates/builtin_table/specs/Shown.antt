@@ -5,7 +5,7 @@ use Rattle.apex_num.specs.declared.cell.Cell.{Cell}
 use Rattle.apex_num.specs.declared.cell.Cell.TheVariants as Cells
 use Rattle.apex_num.specs.Decimals.{dec_text}
 use Rattle.apex_num.specs.Ids.{long_id}
-use Rattle.date_methods.specs.Values.{Date, date_at, is_day, is_moment, day_part, second_part}
+use Rattle.civil_dates.specs.Dates.{Date, date_at, is_day, is_moment, day_part, second_part}
 
 -- the last k digits of a number
 abbrev pub digits : ℕ → ℕ → List ℕ

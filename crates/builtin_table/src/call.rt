@@ -25,7 +25,7 @@ fn on_text(alloc: Global, method: TextMethod, args: &[Cell]) -> Call
     ensures { Answers (spec.plain (B.Text method) args.now) result }
 {
     match args {
-        [Cell::Text(s)] => text_method(alloc, method, s.as_str()),
+        [Cell::Text(s)] => text_method(alloc, method, s),
         _ => Err(invalid_conversion(alloc)),
     }
 }
@@ -52,7 +52,7 @@ fn on_text_at(alloc: Global, method: TextAtMethod, args: &[Cell]) -> Call
     ensures { Answers (spec.plain (B.TextAt method) args.now) result }
 {
     match args {
-        [Cell::Text(s), Cell::Whole(n)] => text_at_method(alloc, method, s.as_str(), *n),
+        [Cell::Text(s), Cell::Whole(n)] => text_at_method(alloc, method, s, *n),
         _ => Err(invalid_conversion(alloc)),
     }
 }
@@ -62,7 +62,7 @@ fn index_of_from(alloc: Global, args: &[Cell]) -> Call
 {
     match args {
         [Cell::Text(s), Cell::Text(t), Cell::Whole(n)] => Ok(place(text_methods::index_from(
-            s.as_str(),
+            s,
             t.as_str(),
             *n,
         ))),
@@ -75,7 +75,7 @@ fn substring_to(alloc: Global, args: &[Cell]) -> Call
 {
     match args {
         [Cell::Text(s), Cell::Whole(n), Cell::Whole(m)] => {
-            part(alloc, text_methods::part(s.as_str(), *n, *m))
+            part(alloc, text_methods::part(s, *n, *m))
         }
         _ => Err(invalid_conversion(alloc)),
     }
@@ -86,7 +86,7 @@ fn mid(alloc: Global, args: &[Cell]) -> Call
 {
     match args {
         [Cell::Text(s), Cell::Whole(n), Cell::Whole(m)] => {
-            copied(alloc, text_methods::mid(s.as_str(), *n, *m))
+            copied(alloc, text_methods::mid(s, *n, *m))
         }
         _ => Err(invalid_conversion(alloc)),
     }
@@ -171,7 +171,7 @@ fn new_date(alloc: Global, args: &[Cell]) -> Call
 {
     match args {
         [Cell::Whole(y), Cell::Whole(m), Cell::Whole(d)] => {
-            day(alloc, date_methods::date_of(*y, *m, *d))
+            day(alloc, civil_dates::date_of(*y, *m, *d))
         }
         _ => Err(invalid_conversion(alloc)),
     }
@@ -190,7 +190,7 @@ fn days_in_month(alloc: Global, args: &[Cell]) -> Call
     ensures { Answers (spec.plain B.DaysInMonth args.now) result }
 {
     match args {
-        [Cell::Whole(y), Cell::Whole(m)] => count_or(alloc, date_methods::days_in(*y, *m)),
+        [Cell::Whole(y), Cell::Whole(m)] => count_or(alloc, civil_dates::days_in(*y, *m)),
         _ => Err(invalid_conversion(alloc)),
     }
 }
@@ -208,7 +208,7 @@ fn is_leap_year(alloc: Global, args: &[Cell]) -> Call
     ensures { Answers (spec.plain B.IsLeapYear args.now) result }
 {
     match args {
-        [Cell::Whole(y)] => leap_or(alloc, date_methods::is_leap(*y)),
+        [Cell::Whole(y)] => leap_or(alloc, civil_dates::is_leap(*y)),
         _ => Err(invalid_conversion(alloc)),
     }
 }
@@ -227,7 +227,7 @@ fn moment_of(alloc: Global, date: Option<(i64, i64, i64)>, time: Option<(i64, i6
 {
     match (date, time) {
         (Some((y, m, d)), Some((h, mi, s))) => {
-            moment(alloc, date_methods::new_moment(y, m, d, h, mi, s))
+            moment(alloc, civil_dates::new_moment(y, m, d, h, mi, s))
         }
         _ => Err(invalid_conversion(alloc)),
     }
@@ -281,7 +281,8 @@ fn is_null(cell: &Cell) -> bool
     }
 }
 
-pub(crate) fn has_null(args: &[Cell]) -> bool
+/// Whether a receiver or an argument is null.
+pub fn has_null(args: &[Cell]) -> bool
     ensures { result ≡ list_any spec.is_null args.now }
 {
     for cell in args {

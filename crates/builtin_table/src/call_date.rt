@@ -3,13 +3,13 @@
 ghost use Rattle.std.specs.Prelude.{◌<◌, ◌^◌, unsigned_abs};
 ghost use Rattle.builtin_table.specs.Answers.{Answers};
 ghost use Rattle.builtin_table.specs.Meanings as spec;
-ghost use Rattle.date_methods.specs.Values.{Date as TheDate};
+ghost use Rattle.civil_dates.specs.Dates.{Date as TheDate};
 
 use crate::exception::{invalid_conversion, invalid_date};
 use crate::method::{DateMethod, MomentMethod};
 use crate::values::{Call, day, moment};
 use apex_num::Cell;
-use date_methods::{civil, split};
+use civil_dates::{civil, split};
 use std::alloc::Global;
 
 fn year(alloc: Global, n: i32) -> Call
@@ -47,7 +47,7 @@ pub(crate) fn date_method(alloc: Global, method: DateMethod, n: i32) -> Call
         DateMethod::Year => year(alloc, n),
         DateMethod::Month => month(alloc, n),
         DateMethod::Day => day_of_month(alloc, n),
-        DateMethod::ToStartOfMonth => day(alloc, date_methods::month_start(n)),
+        DateMethod::ToStartOfMonth => day(alloc, civil_dates::month_start(n)),
         _ => Err(invalid_conversion(alloc)),
     }
 }
@@ -57,9 +57,9 @@ pub(crate) fn date_later(alloc: Global, method: DateMethod, n: i32, count: i64) 
     ensures { Answers (spec.date_later_meaning method n count) result }
 {
     match method {
-        DateMethod::AddDays => day(alloc, date_methods::days_later(n, count)),
-        DateMethod::AddMonths => day(alloc, date_methods::months_later(n, count)),
-        DateMethod::AddYears => day(alloc, date_methods::years_later(n, count)),
+        DateMethod::AddDays => day(alloc, civil_dates::days_later(n, count)),
+        DateMethod::AddMonths => day(alloc, civil_dates::months_later(n, count)),
+        DateMethod::AddYears => day(alloc, civil_dates::years_later(n, count)),
         _ => Err(invalid_conversion(alloc)),
     }
 }
@@ -108,10 +108,10 @@ pub(crate) fn moment_later(alloc: Global, method: MomentMethod, n: i64, count: i
     ensures { Answers (spec.moment_later_meaning method n count) result }
 {
     match method {
-        MomentMethod::AddDays => moment(alloc, date_methods::add_days(n, count)),
-        MomentMethod::AddHours => moment(alloc, date_methods::add_hours(n, count)),
-        MomentMethod::AddMinutes => moment(alloc, date_methods::add_minutes(n, count)),
-        MomentMethod::AddSeconds => moment(alloc, date_methods::add_seconds(n, count)),
+        MomentMethod::AddDays => moment(alloc, civil_dates::add_days(n, count)),
+        MomentMethod::AddHours => moment(alloc, civil_dates::add_hours(n, count)),
+        MomentMethod::AddMinutes => moment(alloc, civil_dates::add_minutes(n, count)),
+        MomentMethod::AddSeconds => moment(alloc, civil_dates::add_seconds(n, count)),
         _ => Err(invalid_conversion(alloc)),
     }
 }

@@ -14,7 +14,7 @@ use crate::exception::{
 use crate::method::{DecimalMethod, MathMethod, ReadMethod};
 use crate::shown::decimal_text;
 use crate::values::{Call, day, integer, moment};
-use apex_num::{Cell, Dec, Id, read_id};
+use apex_num::{Cell, Dec, read_id};
 use std::alloc::Global;
 
 fn invalid_number(alloc: Global, text: &str) -> BuiltinEnd
@@ -41,17 +41,10 @@ fn decimal(alloc: Global, d: Option<Dec>, text: &str) -> Call
     }
 }
 
-// The Id that a text is, of 15 or 18 characters.
-fn id_of(text: &[u8]) -> Option<Id>
-    ensures { result ≡ spec.id_value text.now }
-{
-    read_id(text)
-}
-
 fn id(alloc: Global, text: &str) -> Call
     ensures { Answers (spec.read_meaning R.Id text.now) result }
 {
-    match id_of(text.as_bytes()) {
+    match read_id(text.as_bytes()) {
         Some(id) => Ok(Cell::Id(id)),
         None => Err(thrown_with(alloc, ExceptionClass::String, "Invalid id: ", text)),
     }
@@ -65,8 +58,8 @@ pub(crate) fn read_method(alloc: Global, method: ReadMethod, s: &str) -> Call
         ReadMethod::Integer => whole(alloc, number_methods::read_integer(s).map(i64::from), s),
         ReadMethod::Long => whole(alloc, number_methods::read_long_text(s), s),
         ReadMethod::Decimal => decimal(alloc, number_methods::read_decimal(s), s),
-        ReadMethod::Date => day(alloc, date_values::date_of(s.as_bytes())),
-        ReadMethod::Moment => moment(alloc, date_methods::read_stamp(s.as_bytes())),
+        ReadMethod::Date => day(alloc, civil_dates::read_date(s.as_bytes())),
+        ReadMethod::Moment => moment(alloc, civil_dates::read_stamp(s.as_bytes())),
         ReadMethod::Id => id(alloc, s),
     }
 }

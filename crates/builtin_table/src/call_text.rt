@@ -7,16 +7,17 @@ ghost use Rattle.builtin_table.specs.Meanings as spec;
 use crate::exception::BuiltinEnd;
 use crate::method::{NullableMethod, TextAtMethod, TextMethod, TextsMethod};
 use crate::values::{Call, copied, made, part, place};
-use apex_num::Cell;
+use apex_num::{Cell, Text};
 use std::alloc::Global;
 use std::cmp::Ordering;
 
 /// A method of a text alone.
-pub(crate) fn text_method(alloc: Global, method: TextMethod, s: &str) -> Call
-    ensures { Answers (spec.text_meaning method s.now) result }
+pub(crate) fn text_method(alloc: Global, method: TextMethod, text: &Text) -> Call
+    ensures { Answers (spec.text_meaning method text.now) result }
 {
+    let s = text.as_str();
     match method {
-        TextMethod::Length => Ok(Cell::Whole(text_methods::length(s) as i64)),
+        TextMethod::Length => Ok(Cell::Whole(text.length() as i64)),
         TextMethod::ToLowerCase => made(alloc, s.to_ascii_lowercase(alloc)?),
         TextMethod::ToUpperCase => made(alloc, s.to_ascii_uppercase(alloc)?),
         TextMethod::Capitalize => made(alloc, text_methods::capitalize(alloc, s)?),
@@ -60,16 +61,16 @@ pub(crate) fn texts_method(alloc: Global, method: TextsMethod, s: &str, t: &str)
 }
 
 /// A method of a text and a number.
-pub(crate) fn text_at_method(alloc: Global, method: TextAtMethod, s: &str, n: i64) -> Call
+pub(crate) fn text_at_method(alloc: Global, method: TextAtMethod, s: &Text, n: i64) -> Call
     ensures { Answers (spec.text_at_meaning method s.now n) result }
 {
     match method {
         TextAtMethod::Substring => part(alloc, text_methods::part_from(s, n)),
         TextAtMethod::Left => copied(alloc, text_methods::left(s, n)),
         TextAtMethod::Right => copied(alloc, text_methods::right(s, n)),
-        TextAtMethod::Repeat => made(alloc, text_methods::repeated(alloc, s, n)?),
-        TextAtMethod::LeftPad => made(alloc, text_methods::left_pad(alloc, s, n)?),
-        TextAtMethod::RightPad => made(alloc, text_methods::right_pad(alloc, s, n)?),
+        TextAtMethod::Repeat => made(alloc, text_methods::repeated(alloc, s.as_str(), n)?),
+        TextAtMethod::LeftPad => made(alloc, text_methods::left_pad(alloc, s.as_str(), n)?),
+        TextAtMethod::RightPad => made(alloc, text_methods::right_pad(alloc, s.as_str(), n)?),
     }
 }
 

@@ -8,7 +8,7 @@ use apex_num::Text;
 use std::alloc::{AllocError, Global};
 
 /// A built-in exception class, a child of `Exception`. `LimitException` and `AssertException` can't be caught.
-#[derive(Clone, Copy, Debug, PartialEq, Eq, Hash, Drop)]
+#[derive(Clone, Copy, PartialEq, Eq, Drop)]
 pub enum ExceptionClass {
     Math,
     NullPointer,
@@ -45,7 +45,7 @@ impl ExceptionClass {
 }
 
 /// Why a built-in method has no answer.
-#[derive(Debug, Drop)]
+#[derive(Drop)]
 pub enum BuiltinEnd {
     /// An exception of this class with this message.
     Throw(ExceptionClass, Text),

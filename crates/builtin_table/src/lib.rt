@@ -8,14 +8,10 @@ mod call_text;
 mod exception;
 mod laws;
 mod method;
-mod platform_rows;
 mod shown;
-mod size;
-mod table;
-mod value_rows;
 mod values;
 
-pub use call::call_builtin;
+pub use call::{call_builtin, has_null};
 pub use exception::{BuiltinEnd, ExceptionClass};
 pub use laws::{laws_of_numbers, laws_of_texts};
 pub use method::{
@@ -23,5 +19,3 @@ pub use method::{
     NullableMethod, PlatformMethod, ReadMethod, SetMethod, TextAtMethod, TextMethod, TextsMethod,
 };
 pub use shown::{text_length, text_of};
-pub use size::text_size;
-pub use table::{MethodRow, signature};

@@ -1,7 +1,7 @@
 // The methods on primitives, by what they take.
 
 /// A method of a String that takes nothing else.
-#[derive(Clone, Copy, Debug, PartialEq, Eq, Hash, Drop)]
+#[derive(Clone, Copy, PartialEq, Eq, Drop)]
 pub enum TextMethod {
     Length,
     ToLowerCase,
@@ -14,7 +14,7 @@ pub enum TextMethod {
 }
 
 /// A method of a String that takes a String.
-#[derive(Clone, Copy, Debug, PartialEq, Eq, Hash, Drop)]
+#[derive(Clone, Copy, PartialEq, Eq, Drop)]
 pub enum TextsMethod {
     Contains,
     StartsWith,
@@ -33,7 +33,7 @@ pub enum TextsMethod {
 }
 
 /// A method of a String that takes an Integer.
-#[derive(Clone, Copy, Debug, PartialEq, Eq, Hash, Drop)]
+#[derive(Clone, Copy, PartialEq, Eq, Drop)]
 pub enum TextAtMethod {
     Substring,
     Left,
@@ -44,7 +44,7 @@ pub enum TextAtMethod {
 }
 
 /// A static method of String that takes a String or null.
-#[derive(Clone, Copy, Debug, PartialEq, Eq, Hash, Drop)]
+#[derive(Clone, Copy, PartialEq, Eq, Drop)]
 pub enum NullableMethod {
     IsBlank,
     IsNotBlank,
@@ -53,7 +53,7 @@ pub enum NullableMethod {
 }
 
 /// A static `valueOf` that reads a String.
-#[derive(Clone, Copy, Debug, PartialEq, Eq, Hash, Drop)]
+#[derive(Clone, Copy, PartialEq, Eq, Drop)]
 pub enum ReadMethod {
     /// `Integer.valueOf`.
     Integer,
@@ -70,7 +70,7 @@ pub enum ReadMethod {
 }
 
 /// A method of Math.
-#[derive(Clone, Copy, Debug, PartialEq, Eq, Hash, Drop)]
+#[derive(Clone, Copy, PartialEq, Eq, Drop)]
 pub enum MathMethod {
     /// `abs` of Longs and Decimals.
     Abs,
@@ -83,7 +83,7 @@ pub enum MathMethod {
 }
 
 /// A method of a Decimal, or `intValue` of a Long.
-#[derive(Clone, Copy, Debug, PartialEq, Eq, Hash, Drop)]
+#[derive(Clone, Copy, PartialEq, Eq, Drop)]
 pub enum DecimalMethod {
     /// Of a Long it is what 32 bits hold.
     IntValue,
@@ -94,7 +94,7 @@ pub enum DecimalMethod {
 }
 
 /// A method of a Date.
-#[derive(Clone, Copy, Debug, PartialEq, Eq, Hash, Drop)]
+#[derive(Clone, Copy, PartialEq, Eq, Drop)]
 pub enum DateMethod {
     Year,
     Month,
@@ -107,7 +107,7 @@ pub enum DateMethod {
 }
 
 /// A method of a Datetime.
-#[derive(Clone, Copy, Debug, PartialEq, Eq, Hash, Drop)]
+#[derive(Clone, Copy, PartialEq, Eq, Drop)]
 pub enum MomentMethod {
     GetTime,
     Date,
@@ -124,7 +124,7 @@ pub enum MomentMethod {
 }
 
 /// A method of a List. A position counts from 0.
-#[derive(Clone, Copy, Debug, PartialEq, Eq, Hash, Drop)]
+#[derive(Clone, Copy, PartialEq, Eq, Drop)]
 pub enum ListMethod {
     Add,
     /// `add(n, x)`.
@@ -143,7 +143,7 @@ pub enum ListMethod {
 }
 
 /// A method of a Set.
-#[derive(Clone, Copy, Debug, PartialEq, Eq, Hash, Drop)]
+#[derive(Clone, Copy, PartialEq, Eq, Drop)]
 pub enum SetMethod {
     Add,
     AddAll,
@@ -159,7 +159,7 @@ pub enum SetMethod {
 }
 
 /// A method of a Map.
-#[derive(Clone, Copy, Debug, PartialEq, Eq, Hash, Drop)]
+#[derive(Clone, Copy, PartialEq, Eq, Drop)]
 pub enum MapMethod {
     Put,
     Remove,
@@ -175,7 +175,7 @@ pub enum MapMethod {
 }
 
 /// A method that asks the transaction, or one of an exception, a result, an error or a record.
-#[derive(Clone, Copy, Debug, PartialEq, Eq, Hash, Drop)]
+#[derive(Clone, Copy, PartialEq, Eq, Drop)]
 pub enum PlatformMethod {
     /// `Date.today()`.
     Today,
@@ -221,7 +221,7 @@ pub enum PlatformMethod {
 }
 
 /// A method of the platform, found once by its type, its name and the number of its arguments.
-#[derive(Clone, Copy, Debug, PartialEq, Eq, Hash, Drop)]
+#[derive(Clone, Copy, PartialEq, Eq, Drop)]
 pub enum Builtin {
     Text(TextMethod),
     Texts(TextsMethod),

@@ -7,8 +7,7 @@ ghost use Rattle.apex_num.specs.declared.cell.Cell.TheVariants as Cells;
 ghost use Rattle.builtin_table.specs.Shown as spec;
 
 use apex_num::{Cell, Dec, Id, Text, id_18, print_dec};
-use civil_days::Civil;
-use date_methods::{civil, split};
+use civil_dates::{Civil, civil, split};
 use itoa::Buffer;
 use std::alloc::{AllocError, Global};
 

@@ -1,14 +1,13 @@
 -- Lists that are read item by item, and keys that are looked at in their order.
-use Rattle.std.proofs.Common.{arith, ◌≡◌, ◌+◌, ◌<◌, ℕ, zero, suc, Bool, true, false, bytes_eq, ◌||◌, cond, eqb, String, string_bytes, List, [], ◌∷◌, ◌++◌, length, map, take, drop, get_or, Option, None, Some, Result, Ok, Err, refl, sym, ap, ◌∙◌, append_assoc, add-one, drop-cons, Bor, Global}
+use Rattle.std.proofs.Common.{arith, ◌≡◌, ◌+◌, ◌<◌, ℕ, suc, true, false, bytes_eq, ◌||◌, cond, eqb, String, string_bytes, List, [], ◌∷◌, ◌++◌, length, drop, get_or, Option, Some, Result, Ok, Err, refl, sym, ap, ◌∙◌, append_assoc, add-one, drop-cons, Bor, Global}
 use Rattle.std.specs.List.{list_any}
-use Rattle.std.specs.Option.{option_map}
-use Rattle.serde_json.specs.Data.{Data, Items, no_items, item, Members, no_members, member}
+use Rattle.serde_json.specs.Data.{Data, item}
 use Rattle.serde_json.specs.View.{view, items_view, members_view}
 use Rattle.serde_json.specs.declared.value.Value.{Value}
-use Rattle.apex_schema.specs.declared.reply.Fault.{Fault}
-use Rattle.apex_schema.specs.declared.reply.FaultWord.TheVariants.{TooMany}
+use Rattle.fault_words.specs.declared.fault.Fault.{Fault}
+use Rattle.fault_words.specs.declared.fault.FaultWord.TheVariants.{TooMany}
 use Rattle.bundle_read.specs.declared.fault.BundleFault.{BundleFault}
-use Rattle.bundle_read.specs.Readings.{◌>>=◌, within, count, is_over, short, each, item_name, fault, here, IsFault, Stops, has, texts, unknown_key}
+use Rattle.bundle_read.specs.Readings.{◌>>=◌, within, count, is_over, short, each, item_name, here, IsFault, Stops, has, texts, unknown_key}
 use Rattle.bundle_read.specs.declared.entries.TenantPlan.{TenantPlan}
 use Rattle.bundle_read.specs.Bundles.{filled, tenant, each_tenant}
 use Rattle.bundle_read.proofs.Steps.{fault_stops, then_stops}

@@ -1,3 +1,4 @@
 mod Steps
 mod Items
 mod Whole
+mod Inside

@@ -1,6 +1,6 @@
 -- How answers of readings are put together.
 use Rattle.std.proofs.Common.{◌≡◌, Result, Ok, Err, sym, ap, ◌∙◌}
-use Rattle.apex_schema.specs.declared.reply.Fault.{Fault}
+use Rattle.fault_words.specs.declared.fault.Fault.{Fault}
 use Rattle.bundle_read.specs.declared.fault.BundleFault.{BundleFault}
 use Rattle.bundle_read.specs.declared.fault.BundleFault.TheVariants.{Wrong, NoMemory}
 use Rattle.bundle_read.specs.Readings.{◌>>=◌, IsFault, Stops, Tells}

@@ -1,12 +1,12 @@
 -- From a JSON value to the answer.
-use Rattle.std.proofs.Common.{arith, ◌≡◌, ◌∷◌, ℕ, Bool, true, false, cond, eqb, eqb-true, eq-eqb, List, [], codes, Option, None, Some, Result, Ok, Err, refl, sym, ap, ◌∙◌, subst, IsUtf8}
+use Rattle.std.proofs.Common.{◌≡◌, ◌∷◌, ℕ, Bool, true, false, cond, eqb, eqb-true, List, [], codes, None, Result, Ok, Err, refl, sym, ap, ◌∙◌, subst, IsUtf8}
 use Rattle.serde_json.specs.Data.{Data}
 use Rattle.serde_json.specs.Read.{read}
-use Rattle.apex_schema.specs.declared.reply.Fault.{Fault}
+use Rattle.fault_words.specs.declared.fault.Fault.{Fault}
 use Rattle.bundle_read.specs.declared.entries.Bundle.{Bundle}
 use Rattle.bundle_read.specs.declared.fault.BundleFault.{BundleFault}
 use Rattle.bundle_read.specs.declared.fault.BundleFault.TheVariants.{Wrong, NoMemory}
-use Rattle.bundle_read.specs.Readings.{Stops, Tells, IsFault}
+use Rattle.bundle_read.specs.Readings.{Stops, Tells}
 use Rattle.bundle_read.specs.Bundles.{path, placed, bundle, IsJson, not_json, IsRead, as_value, as_nothing, Reads, Agrees, IsNotJson, IsPlaced}
 
 -- ---- places

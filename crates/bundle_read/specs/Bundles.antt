@@ -1,22 +1,22 @@
 -- What a bundle says, or its first fault (docs/formats.md, "Bundles"): one reading for each row of the table of keys.
-use Rattle.std.specs.Prelude.{◌≡◌, ℕ, ◌+◌, ◌++◌, ◌||◌, not, nat_lt, eqb, cond, Bool, true, false, List, [], ◌∷◌, codes, bytes_eq, map, ℤ, pos, Option, None, Some, Result, Ok, Err, IsUtf8}
+use Rattle.std.specs.Prelude.{◌≡◌, ℕ, ◌+◌, ◌++◌, eqb, cond, Bool, false, List, [], ◌∷◌, codes, ℤ, pos, Option, None, Some, Result, Ok, Err, IsUtf8}
 use Rattle.serde_json.specs.Data.{Data, Num, null, boolean, number, string, array, object, Items, no_items, item, Members, no_members, member}
 use Rattle.serde_json.specs.Find.{get, as_object, as_array, as_str, as_bool, as_number, as_integer}
 use Rattle.serde_json.specs.Read.{read}
-use Rattle.date_values.specs.Values.{moment_value}
-use Rattle.apex_schema.specs.declared.reply.Fault.{Fault}
-use Rattle.apex_schema.specs.declared.reply.FaultWord.TheVariants.{BadValue, Duplicate, NotJson}
+use Rattle.civil_dates.specs.Texts.{moment_value}
+use Rattle.fault_words.specs.declared.fault.Fault.{Fault}
+use Rattle.fault_words.specs.declared.fault.FaultWord.TheVariants.{BadValue, Duplicate, NotJson}
 use Rattle.apex_schema.specs.declared.schema.Access.{Access}
 use Rattle.apex_schema.specs.declared.schema.RollupBy.{RollupBy}
-use Rattle.apex_schema.specs.declared.request.Op.{Op}
-use Rattle.apex_schema.specs.declared.plan.PlanKind.{PlanKind}
-use Rattle.apex_schema.specs.declared.plan.PlanLength.{PlanLength}
-use Rattle.apex_schema.specs.declared.plan.SchemaPlan.{SchemaPlan}
-use Rattle.apex_schema.specs.declared.plan.RolePlan.{RolePlan}
-use Rattle.apex_schema.specs.declared.plan.UserPlan.{UserPlan}
-use Rattle.apex_schema.specs.declared.plan.ObjectPlan.{ObjectPlan}
-use Rattle.apex_schema.specs.declared.plan.FieldPlan.{FieldPlan}
-use Rattle.apex_schema.specs.declared.plan.RulePlan.{RulePlan}
+use Rattle.apex_requests.specs.declared.request.Op.{Op}
+use Rattle.schema_plans.specs.declared.plan.PlanKind.{PlanKind}
+use Rattle.schema_plans.specs.declared.plan.PlanLength.{PlanLength}
+use Rattle.schema_plans.specs.declared.plan.SchemaPlan.{SchemaPlan}
+use Rattle.schema_plans.specs.declared.plan.RolePlan.{RolePlan}
+use Rattle.schema_plans.specs.declared.plan.UserPlan.{UserPlan}
+use Rattle.schema_plans.specs.declared.plan.ObjectPlan.{ObjectPlan}
+use Rattle.schema_plans.specs.declared.plan.FieldPlan.{FieldPlan}
+use Rattle.schema_plans.specs.declared.plan.RulePlan.{RulePlan}
 use Rattle.bundle_read.specs.declared.fault.BundleFault.{BundleFault}
 use Rattle.bundle_read.specs.declared.fault.BundleFault.TheVariants.{Wrong, NoMemory}
 use Rattle.bundle_read.specs.declared.entries.Bundle.{Bundle}
@@ -32,7 +32,7 @@ use Rattle.bundle_read.specs.declared.entries.RequestEntry.{RequestEntry}
 use Rattle.bundle_read.specs.declared.entries.WorkEntry.{WorkEntry}
 use Rattle.bundle_read.specs.declared.entries.WorkEntry.TheVariants as Work
 use Rattle.bundle_read.specs.declared.entries.SaveEntry.{SaveEntry}
-use Rattle.bundle_read.specs.Readings.{here, inner, fault, within, ◌>>=◌, of_kind, of_values, has, keyed, key_name, found, needed, optional, item_name, each, count, is_over, short, list_of, IsFault}
+use Rattle.bundle_read.specs.Readings.{fault, within, ◌>>=◌, of_kind, of_values, has, keyed, key_name, needed, optional, item_name, each, short, list_of, IsFault}
 use Rattle.bundle_read.specs.Words.{meaning, access_words, kind_words, by_words, op_words, version_of, length_of, is_tenant_name}
 
 -- ---- single values

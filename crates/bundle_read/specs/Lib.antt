@@ -1,3 +1,4 @@
 pub mod Readings
 pub mod Words
 pub mod Bundles
+pub mod Laws

@@ -1,5 +1,5 @@
 -- How JSON values are read: what they say, or the first fault in them (docs/formats.md, "Bundles").
-use Rattle.std.specs.Prelude.{◌≡◌, ℕ, ◌+◌, ◌++◌, ◌||◌, not, nat_lt, eqb, cond, Bool, true, false, List, [], ◌∷◌, codes, bytes_eq, decimal, map, Option, None, Some, Result, Ok, Err}
+use Rattle.std.specs.Prelude.{◌≡◌, ℕ, ◌+◌, ◌++◌, nat_lt, cond, Bool, false, List, [], ◌∷◌, codes, bytes_eq, decimal, map, Option, None, Some, Result, Ok, Err}
 use Rattle.std.specs.List.{list_any}
 use Rattle.serde_json.specs.Data.{Data, Num, Items, no_items, item, Members, no_members, member}
 use Rattle.serde_json.specs.Find.{get, as_object, as_array}
@@ -7,9 +7,9 @@ use denote.Ref.{Bor}
 use Rattle.serde_json.specs.declared.value.Value.{Value}
 use Rattle.serde_json.specs.View.{view, number_view, items_view}
 use Rattle.serde_json.specs.declared.number.Number.{Number}
-use Rattle.apex_schema.specs.declared.reply.Fault.{Fault}
-use Rattle.apex_schema.specs.declared.reply.FaultWord.{FaultWord}
-use Rattle.apex_schema.specs.declared.reply.FaultWord.TheVariants.{Missing, WrongKind, BadValue, TooMany, UnknownKey}
+use Rattle.fault_words.specs.declared.fault.Fault.{Fault}
+use Rattle.fault_words.specs.declared.fault.FaultWord.{FaultWord}
+use Rattle.fault_words.specs.declared.fault.FaultWord.TheVariants.{Missing, WrongKind, BadValue, TooMany, UnknownKey}
 use Rattle.bundle_read.specs.declared.fault.BundleFault.{BundleFault}
 use Rattle.bundle_read.specs.declared.fault.BundleFault.TheVariants.{Wrong, NoMemory}
 

@@ -1,17 +1,17 @@
 -- The words and numbers that a bundle may have at some places (docs/formats.md, "Bundles").
-use Rattle.std.specs.Prelude.{ℕ, ◌&&◌, ◌||◌, nat_lt, nat_le, eqb, cond, Bool, true, false, List, [], ◌∷◌, length, codes, bytes_eq, Option, None, Some}
+use Rattle.std.specs.Prelude.{ℕ, ◌&&◌, ◌||◌, nat_lt, eqb, cond, Bool, List, [], ◌∷◌, length, codes, bytes_eq, Option, None, Some}
 use Rattle.std.specs.List.{list_all}
-use Rattle.serde_json.specs.Data.{Num, unsigned, negative, float}
+use Rattle.serde_json.specs.Data.{Num, unsigned}
 use Rattle.apex_schema.specs.declared.schema.Access.{Access}
 use Rattle.apex_schema.specs.declared.schema.Access.TheVariants as Level
 use Rattle.apex_schema.specs.declared.schema.RollupBy.{RollupBy}
 use Rattle.apex_schema.specs.declared.schema.RollupBy.TheVariants as By
-use Rattle.apex_schema.specs.declared.request.Op.{Op}
-use Rattle.apex_schema.specs.declared.request.Op.TheVariants as Does
-use Rattle.apex_schema.specs.declared.plan.PlanKind.{PlanKind}
-use Rattle.apex_schema.specs.declared.plan.PlanKind.TheVariants as Kind
-use Rattle.apex_schema.specs.declared.plan.PlanLength.{PlanLength}
-use Rattle.apex_schema.specs.declared.plan.PlanLength.TheVariants.{Whole, Other}
+use Rattle.apex_requests.specs.declared.request.Op.{Op}
+use Rattle.apex_requests.specs.declared.request.Op.TheVariants as Does
+use Rattle.schema_plans.specs.declared.plan.PlanKind.{PlanKind}
+use Rattle.schema_plans.specs.declared.plan.PlanKind.TheVariants as Kind
+use Rattle.schema_plans.specs.declared.plan.PlanLength.{PlanLength}
+use Rattle.schema_plans.specs.declared.plan.PlanLength.TheVariants.{Whole, Other}
 
 -- the meaning of the first of these words that is this one
 abbrev pub meaning : {A : Type 0} → List (List ℕ × A) → List ℕ → Option A

@@ -16,7 +16,7 @@ use crate::schema::schema;
 use crate::taken::Taken;
 use apex_list::Items;
 use apex_num::Text;
-use apex_schema::FaultWord;
+use fault_words::FaultWord;
 use serde_json::Value;
 use std::alloc::Global;
 

@@ -2,10 +2,11 @@
 
 use apex_list::Items;
 use apex_num::Text;
-use apex_schema::{Op, SchemaPlan};
+use apex_requests::Op;
+use schema_plans::SchemaPlan;
 
 /// A bundle: the tenants of a run.
-#[derive(Debug, Drop)]
+#[derive(Drop)]
 pub struct Bundle {
     /// The version of the format, 1.
     pub version: u32,
@@ -13,7 +14,7 @@ pub struct Bundle {
 }
 
 /// A tenant.
-#[derive(Debug, Drop)]
+#[derive(Drop)]
 pub struct TenantPlan {
     /// 1 to 64 small letters, digits and `_`; no two tenants of a bundle have one name.
     pub name: Text,
@@ -24,7 +25,7 @@ pub struct TenantPlan {
 }
 
 /// A class, an interface or a trigger.
-#[derive(Debug, Drop)]
+#[derive(Drop)]
 pub struct UnitPlan {
     /// What its faults are told of; any text.
     pub name: Text,
@@ -32,7 +33,7 @@ pub struct UnitPlan {
 }
 
 /// Rows of an object that are there before the first request.
-#[derive(Debug, Drop)]
+#[derive(Drop)]
 pub struct SeedEntry {
     /// The name of the object.
     pub object: Text,
@@ -40,20 +41,20 @@ pub struct SeedEntry {
 }
 
 /// A row, or a record to save: its cells in the order of their keys' bytes.
-#[derive(Debug, Drop)]
+#[derive(Drop)]
 pub struct RowEntry {
     pub cells: Items<CellEntry>,
 }
 
 /// A cell: the name of its field, and what was written for it.
-#[derive(Debug, Drop)]
+#[derive(Drop)]
 pub struct CellEntry {
     pub name: Text,
     pub value: CellValue,
 }
 
 /// A JSON value that is written for a cell. Which cell it is, if it is one, its field tells.
-#[derive(Debug, Drop)]
+#[derive(Drop)]
 pub enum CellValue {
     Null,
     Truth(bool),
@@ -67,7 +68,7 @@ pub enum CellValue {
 }
 
 /// A session: requests of a user that run one after the other.
-#[derive(Debug, Drop)]
+#[derive(Drop)]
 pub struct SessionEntry {
     /// The name of the user.
     pub user: Text,
@@ -75,7 +76,7 @@ pub struct SessionEntry {
 }
 
 /// A request of a session.
-#[derive(Debug, Drop)]
+#[derive(Drop)]
 pub struct RequestEntry {
     pub work: WorkEntry,
     /// The moment of the request: seconds from 1970-01-01T00:00:00Z.
@@ -83,7 +84,7 @@ pub struct RequestEntry {
 }
 
 /// What a request does.
-#[derive(Debug, Drop)]
+#[derive(Drop)]
 pub enum WorkEntry {
     /// It runs this anonymous block.
     Apex(Text),
@@ -91,7 +92,7 @@ pub enum WorkEntry {
 }
 
 /// Records to save, as one statement.
-#[derive(Debug, Drop)]
+#[derive(Drop)]
 pub struct SaveEntry {
     pub op: Op,
     /// The name of the object.

@@ -4,7 +4,7 @@ ghost use Rattle.std.specs.Prelude.{◌≡◌, ◌++◌, IfOk};
 ghost use Rattle.bundle_read.specs.Readings.{IsFault, IsInner, here};
 
 use apex_num::{NoMemory, Text};
-use apex_schema::{Fault, FaultWord};
+use fault_words::{Fault, FaultWord};
 use std::alloc::{AllocError, Global};
 use thiserror::Error;
 

@@ -1,9 +1,11 @@
 //! Bundles: from the bytes of a run's input to what they say, or the first fault in them.
+//! Laws about bundles that were read.
 #![tactic(auto)]
 
 mod bundle;
 mod entries;
 mod fault;
+mod laws;
 mod lists;
 mod read;
 mod reading;
@@ -18,4 +20,5 @@ pub use entries::{
     TenantPlan, UnitPlan, WorkEntry,
 };
 pub use fault::BundleFault;
+pub use laws::laws_of_bundles;
 pub use reading::read_bundle;

@@ -12,7 +12,7 @@ ghost use Rattle.bundle_read.specs.Readings.{Tells, IsFirst};
 use crate::fault::{BundleFault, wrong};
 use crate::read::{Entry, at_item, at_key, within_key};
 use apex_list::Items;
-use apex_schema::FaultWord;
+use fault_words::FaultWord;
 use serde_json::{Map, Value};
 use std::alloc::Global;
 

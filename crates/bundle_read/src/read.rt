@@ -4,13 +4,13 @@ ghost use Rattle.std.specs.Prelude.{◌≡◌, ◌+◌, ◌∷◌, Option, None,
 ghost use Rattle.std.specs.Option.{option_map};
 ghost use Rattle.serde_json.specs.View.{view, items_view, members_view};
 ghost use Rattle.serde_json.specs.Find.{get};
-ghost use Rattle.apex_schema.specs.declared.reply.Fault.{Fault as TheFault};
+ghost use Rattle.fault_words.specs.declared.fault.Fault.{Fault as TheFault};
 ghost use Rattle.bundle_read.specs.Readings as spec;
 ghost use Rattle.bundle_read.specs.Readings.{Tells, IsInner, IsFirst};
 
 use crate::fault::{BundleFault, inside, wrong};
 use apex_list::Items;
-use apex_schema::FaultWord;
+use fault_words::FaultWord;
 use itoa::Buffer;
 use serde_json::{Map, Value};
 use std::alloc::Global;
@@ -20,7 +20,7 @@ pub trait Entry {
     ghost use Rattle.std.specs.Prelude.{Result};
     ghost use Rattle.serde_json.specs.Data.{Data};
     ghost use Rattle.serde_json.specs.View.{view};
-    ghost use Rattle.apex_schema.specs.declared.reply.Fault.{Fault};
+    ghost use Rattle.fault_words.specs.declared.fault.Fault.{Fault};
     ghost use Rattle.bundle_read.specs.Readings.{Tells};
 
     ghost reads: { Data → Result Self Fault };

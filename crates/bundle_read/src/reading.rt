@@ -3,7 +3,7 @@
 ghost use Rattle.std.specs.Prelude.{Result, IfOk, ◌≡◌};
 ghost use Rattle.serde_json.specs.View.{view};
 ghost use Rattle.bundle_read.specs.declared.entries.Bundle.{Bundle as TheBundle};
-ghost use Rattle.apex_schema.specs.declared.reply.Fault.{Fault as TheFault};
+ghost use Rattle.fault_words.specs.declared.fault.Fault.{Fault as TheFault};
 ghost use Rattle.bundle_read.specs.Bundles as spec;
 ghost use Rattle.bundle_read.specs.Readings.{Tells};
 
@@ -11,7 +11,7 @@ use crate::bundle::bundle;
 use crate::entries::Bundle;
 use crate::fault::BundleFault;
 use apex_num::{NoMemory, Text};
-use apex_schema::{Fault, FaultWord};
+use fault_words::{Fault, FaultWord};
 use serde_json::Value;
 use std::alloc::Global;
 

@@ -12,7 +12,7 @@ use crate::lists::{keyed, needed_list};
 use crate::read::{Entry, needed, optional, within_key};
 use crate::rows::needed_rows;
 use apex_num::Text;
-use apex_schema::FaultWord;
+use fault_words::FaultWord;
 use serde_json::Value;
 use std::alloc::Global;
 

@@ -12,7 +12,7 @@ use crate::lists::slice_in;
 use crate::read::{at_item, within_key};
 use apex_list::Items;
 use apex_num::{NoMemory, Text};
-use apex_schema::FaultWord;
+use fault_words::FaultWord;
 use serde_json::{Map, Value};
 use std::alloc::Global;
 

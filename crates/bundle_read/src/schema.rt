@@ -11,9 +11,10 @@ use crate::lists::{each, keyed, or_empty, short, slice_in};
 use crate::read::{Entry, needed, optional, within_key};
 use apex_list::Items;
 use apex_num::Text;
-use apex_schema::{
-    FaultWord, FieldPlan, ObjectPlan, PlanKind, PlanLength, RolePlan, RollupBy, RulePlan,
-    SchemaPlan, UserPlan,
+use apex_schema::RollupBy;
+use fault_words::FaultWord;
+use schema_plans::{
+    FieldPlan, ObjectPlan, PlanKind, PlanLength, RolePlan, RulePlan, SchemaPlan, UserPlan,
 };
 use serde_json::Value;
 use std::alloc::Global;

@@ -26,14 +26,22 @@ impl Taken {
         }
     }
 
+    // With this name, which is taken over.
+    fn put(self, name: Text) -> Result<Taken, NoMemory>
+        ensures { IfOk result (λ taken. taken.list.items ≡ self.list.items ++ name ∷ []) }
+    {
+        let Taken { mut list, mut set } = self;
+        list.push(name.copy()?)?;
+        set.insert(name).map_err(AllocError::from)?;
+        Ok(Taken { list, set })
+    }
+
     /// With one name more.
     pub fn with(self, name: &Text) -> Result<Taken, NoMemory>
         ensures { IfOk result (λ taken. taken.list.items ≡ self.list.items ++ name.now ∷ []) }
     {
-        let Taken { mut list, mut set } = self;
-        list.push(name.copy()?)?;
-        set.insert(name.copy()?).map_err(AllocError::from)?;
-        Ok(Taken { list, set })
+        let name = name.copy()?;
+        self.put(name)
     }
 
     pub fn has(&self, name: &Text) -> bool

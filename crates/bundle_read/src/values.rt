@@ -10,8 +10,11 @@ ghost use Rattle.serde_json.specs.View.{view, number_view};
 use crate::fault::{BundleFault, wrong};
 use crate::read::Entry;
 use apex_num::Text;
-use apex_schema::{Access, FaultWord, Op, PlanKind, PlanLength, RollupBy};
-use date_values::moment_of;
+use apex_requests::Op;
+use apex_schema::{Access, RollupBy};
+use civil_dates::read_moment;
+use fault_words::FaultWord;
+use schema_plans::{PlanKind, PlanLength};
 use serde_json::{Number, Value};
 use std::alloc::Global;
 
@@ -243,6 +246,6 @@ impl Entry for i64 {
 
     fn read(alloc: Global, value: &Value) -> Result<i64, BundleFault> {
         let text = str_in(alloc, value)?;
-        one_of(alloc, moment_of(text.as_bytes()))
+        one_of(alloc, read_moment(text.as_bytes()))
     }
 }

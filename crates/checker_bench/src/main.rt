@@ -60,7 +60,7 @@ fn main(rt: HostRuntime) -> anyhow::Result<ExitCode> {
         Ok(program) => println!(rt; "ok {}", program.units.len())?,
         Err(CheckFault::Wrong(fault)) => {
             println!(rt;
-                "unit {} {} {}",
+                "unit {} {} {:?}",
                 fault.unit, fault.fault.at, fault.fault.word
             )?;
         }

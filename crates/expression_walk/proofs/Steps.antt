@@ -1,6 +1,6 @@
 -- Steps of walks.
-use Rattle.std.proofs.Common.{◌≡◌, ℕ, ◌+◌, ◌<◌, ◌≤◌, List, [], ◌∷◌, ◌++◌, length, drop, get_or, map, Result, sym, ap, ◌∙◌, subst}
-use Rattle.std.proofs.lemmas.List.{append-nil, drop_all, drop_more}
+use Rattle.std.proofs.Common.{◌≡◌, ℕ, ◌+◌, ◌<◌, List, [], ◌∷◌, ◌++◌, length, drop, get_or, map, Result, sym, ap, ◌∙◌, subst}
+use Rattle.std.proofs.lemmas.List.{drop_more}
 use Rattle.type_names.specs.declared.fault.WalkFault.{WalkFault}
 use Rattle.type_names.specs.declared.fault.WalkFault.TheVariants as Fault
 use Rattle.type_names.specs.Walks.{Walk, Gives, Comes, Fails, onward, all}
@@ -48,17 +48,6 @@ module _ {A T : Type 0} (f : T → Walk A) where
       ∙ ap (λ w. behind done (all (w ∷ map f (drop (i + 1) ts)))) e
       ∙ one_done done a (map f (drop (i + 1) ts))
       ∙ ap (λ l. behind l (all (map f (drop (i + 1) ts)))) (sym m)
-
-  pub one_halts : (ts : List T) (i : ℕ) (t : T) → i < length ts → t ≡ get_or ts i t → (whole : Walk (List A)) (done : List A) (fault : WalkFault)
-      → whole ≡ behind done (all (map f (drop i ts))) → Fails (f t) fault → Fails whole fault
-  one_halts ts i t lt is whole done (Fault.Wrong fault) inv h =
-      inv ∙ ap (λ l. behind done (all (map f l))) (left ts i t lt is)
-      ∙ ap (λ w. behind done (all (w ∷ map f (drop (i + 1) ts)))) h
-  one_halts ts i t lt is whole done Fault.NoMemory inv h = h
-
-  pub all_done : (ts : List T) (i : ℕ) → length ts ≤ i → (whole : Walk (List A)) (done : List A) → whole ≡ behind done (all (map f (drop i ts))) → whole ≡ Gives done
-  all_done ts i le whole done inv =
-      inv ∙ ap (λ l. behind done (all (map f l))) (drop_all i ts le) ∙ ap Gives (append-nil done)
 
 -- a walk that hands something along, from its parts on the left to those that are left
 module _ {P S T : Type 0} (from : List P → S → Walk S) (uses : P → S → Walk S) (f : T → P)

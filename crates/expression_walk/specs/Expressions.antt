@@ -1,15 +1,16 @@
 -- The walk over expressions: what one comes to by what its parts come to, or its first fault (docs/language.md, "The
 -- walk over expressions").
-use Rattle.std.specs.Prelude.{ℕ, List, [], ◌∷◌, ◌++◌, length, map, Option, None, Some}
+use Rattle.std.specs.Prelude.{ℕ, List, [], ◌∷◌, ◌++◌, length, map, Option, None, Some, option_map}
+use Rattle.apex_num.specs.declared.cell.Cell.{Cell}
 use Rattle.apex_num.specs.declared.cell.Cell.TheVariants as X
-use Rattle.apex_schema.specs.declared.query.Cond.{Cond}
-use Rattle.apex_schema.specs.declared.query.Cond.TheVariants as Q
-use Rattle.apex_schema.specs.declared.query.Query.{Query}
-use Rattle.apex_schema.specs.declared.query.Term.{Term}
-use Rattle.apex_schema.specs.declared.query.Term.TheVariants.{Given}
-use Rattle.apex_schema.specs.declared.query.Terms.{Terms}
-use Rattle.apex_schema.specs.declared.query.Terms.TheVariants as Ts
-use Rattle.apex_schema.specs.declared.reply.FaultWord.TheVariants.{BadQuery}
+use Rattle.apex_rows.specs.declared.query.Cond.{Cond}
+use Rattle.apex_rows.specs.declared.query.Cond.TheVariants as Q
+use Rattle.apex_rows.specs.declared.query.Query.{Query}
+use Rattle.apex_rows.specs.declared.query.Term.{Term}
+use Rattle.apex_rows.specs.declared.query.Term.TheVariants.{Given}
+use Rattle.apex_rows.specs.declared.query.Terms.{Terms}
+use Rattle.apex_rows.specs.declared.query.Terms.TheVariants as Ts
+use Rattle.fault_words.specs.declared.fault.FaultWord.TheVariants.{BadQuery}
 use Rattle.apex_syntax.specs.declared.expr.Expr.{Expr}
 use Rattle.apex_syntax.specs.declared.expr.Expr.TheOpen.{Expr-F, NewPart-F, PostfixPart-F, BindTree-F, CondTree-F, CountTree-F, ListTree-F, SelTree-F, SelectTree-F, ValueTree-F, FieldValue-F, NewItem-F, Operand-F, QueryTree-F}
 use Rattle.apex_syntax.specs.declared.expr.Expr.TheFolds.{fold-Expr, fold-NewPart, fold-PostfixPart, fold-BindTree, fold-CondTree, fold-CountTree, fold-ListTree, fold-SelTree, fold-SelectTree, fold-ValueTree, fold-FieldValue, fold-NewItem, fold-Operand, fold-QueryTree}
@@ -18,6 +19,7 @@ use Rattle.apex_syntax.specs.declared.expr.PostfixPart.{PostfixPart}
 use Rattle.apex_syntax.specs.declared.expr.FieldValue.{FieldValue}
 use Rattle.apex_syntax.specs.declared.expr.NewItem.{NewItem}
 use Rattle.apex_syntax.specs.declared.expr.Operand.{Operand}
+use Rattle.apex_syntax.specs.declared.expr.Expr.TheViews.{out-QueryTree}
 use Rattle.apex_syntax.specs.declared.expr.TypeTree.TheViews.{out-TypeTree}
 use Rattle.apex_syntax.specs.declared.query.BindTree.{BindTree}
 use Rattle.apex_syntax.specs.declared.query.CondTree.{CondTree}
@@ -26,23 +28,25 @@ use Rattle.apex_syntax.specs.declared.query.ListTree.{ListTree}
 use Rattle.apex_syntax.specs.declared.query.SelTree.{SelTree}
 use Rattle.apex_syntax.specs.declared.query.SelectTree.{SelectTree}
 use Rattle.apex_syntax.specs.declared.query.ValueTree.{ValueTree}
+use Rattle.apex_syntax.specs.declared.query.OrderTree.{OrderTree}
 use Rattle.apex_syntax.specs.declared.query.QueryTree.{QueryTree}
 use Rattle.apex_syntax.specs.declared.word.Word.{Word}
-use Rattle.collection_values.specs.Fillings.{filling_of, bare_item, pair_item, filled_with, mapped_with}
-use Rattle.collection_values.specs.Indices.{indexed}
-use Rattle.constructor_calls.specs.Made.{made_with}
-use Rattle.constructor_calls.specs.Makers.{maker_of}
-use Rattle.expression_walk.specs.Leaves.{literal, in_parentheses, prefixed, stepped_behind, assigned_by, own_receiver, called}
+use Rattle.new_values.specs.Fillings.{filling_of, bare_item, pair_item, filled_with, mapped_with}
+use Rattle.new_values.specs.Indices.{indexed}
+use Rattle.typed_calls.specs.Made.{made_with}
+use Rattle.typed_calls.specs.Makers.{maker_of}
+use Rattle.expression_walk.specs.Leaves.{literal, value_of, valued, in_parentheses, prefixed, stepped_behind, assigned_by, own_receiver, called}
 use Rattle.expression_walk.specs.Views.{Sight}
 use Rattle.method_calls.specs.Callees.{called_on, called_alone}
 use Rattle.name_meanings.specs.Accesses.{member_of}
 use Rattle.name_meanings.specs.NamesAlone.{name_in, this_in, super_in}
-use Rattle.query_terms.specs.OpenQueries.{opened, counting, with_path, with_child, with_cond, with_limit, with_offset, with_order, closed_query, written, bound, bound_list}
+use Rattle.query_terms.specs.Besides.{Beside}
+use Rattle.query_terms.specs.OpenQueries.{opened, counting, with_path, with_child, with_cond, with_limit, with_offset, with_order, closed_query, bound, bound_list}
 use Rattle.query_terms.specs.Paths.{field_path, compared_path, cond_op}
 use Rattle.query_terms.specs.Sources.{object_named, children_named, query_value}
-use Rattle.query_terms.specs.Values.{number_cell, text_cell, day_cell, moment_cell, truth_cell}
+use Rattle.query_terms.specs.Values.{given, number_cell, text_cell, day_cell, moment_cell, truth_cell}
 use Rattle.query_terms.specs.declared.open.OpenQuery.{OpenQuery}
-use Rattle.record_values.specs.Fields.{record_of, field_named, with_value, pair, record_with}
+use Rattle.new_values.specs.Fields.{record_of, field_named, with_value, pair, record_with}
 use Rattle.static_types.specs.declared.kind.Primitive.{Primitive}
 use Rattle.static_types.specs.declared.kind.Primitive.TheVariants as P
 use Rattle.static_types.specs.declared.kind.ValueType.{ValueType}
@@ -54,12 +58,12 @@ use Rattle.typed_operations.specs.Chains.{begun, with_operand, closed}
 use Rattle.typed_operations.specs.Choices.{chosen}
 use Rattle.typed_operations.specs.Prefixes.{writable}
 use Rattle.typed_operations.specs.declared.chain.OpenChain.{OpenChain}
-use Rattle.typed_trees.specs.declared.expr.CollectionKind.{CollectionKind}
-use Rattle.typed_trees.specs.declared.expr.CollectionKind.TheVariants as C
-use Rattle.typed_trees.specs.declared.expr.TypedBind.{TypedBind}
-use Rattle.typed_trees.specs.declared.expr.TypedExpr.{TypedExpr}
-use Rattle.typed_trees.specs.declared.expr.TypedItem.{TypedItem}
-use Rattle.typed_trees.specs.declared.expr.TypedPair.{TypedPair}
+use Rattle.typed_program.specs.declared.expr.CollectionKind.{CollectionKind}
+use Rattle.typed_program.specs.declared.expr.CollectionKind.TheVariants as C
+use Rattle.typed_program.specs.declared.expr.TypedBind.{TypedBind}
+use Rattle.typed_program.specs.declared.expr.TypedExpr.{TypedExpr}
+use Rattle.typed_program.specs.declared.expr.TypedItem.{TypedItem}
+use Rattle.typed_program.specs.declared.expr.TypedPair.{TypedPair}
 use Rattle.typed_values.specs.declared.typed.Typed.{Typed}
 
 -- ---- what the parts of an expression come to
@@ -88,12 +92,8 @@ pub record BindWalk : Type 0 where
   pub at : ℕ
   pub value : Walk Typed
 
--- a part of a query, beside the binds before it and up to its end
-abbrev pub Beside : Type 0 → Type 0
-Beside A = List TypedBind → Walk (A × List TypedBind)
-
 abbrev pub SelWalk : Type 0
-SelWalk = OpenQuery → Walk OpenQuery
+SelWalk = OpenQuery → Beside OpenQuery
 
 -- the object that it names, and the whole where that has this number
 pub record QueryWalk : Type 0 where
@@ -118,9 +118,9 @@ abbrev pub fields_from : ℕ → List FieldWalk → List TypedPair → Walk (Lis
 fields_from object [] pairs = Gives pairs
 fields_from object (f ∷ fs) pairs = onward (f object pairs) (fields_from object fs)
 
-abbrev pub sels_from : List SelWalk → OpenQuery → Walk OpenQuery
-sels_from [] query = Gives query
-sels_from (s ∷ ss) query = onward (s query) (sels_from ss)
+abbrev pub sels_from : List SelWalk → OpenQuery → Beside OpenQuery
+sels_from [] query binds = Gives (query, binds)
+sels_from (s ∷ ss) query binds = onward (s query binds) (λ r. sels_from ss r.0 r.1)
 
 -- these values, and those that follow them
 abbrev pub terms_from : List (Beside Term) → List Term → Beside (List Term)
@@ -133,17 +133,17 @@ conds_from (c ∷ cs) conds binds = onward (c binds) (λ r. conds_from cs (conds
 
 -- ---- the parts of a query that may be absent
 
-abbrev pub filtered : Option (ℕ → Beside Cond) → OpenQuery → Walk OpenQuery
-filtered None query = Gives query
-filtered (Some c) query = onward (c query.object query.binds) (λ r. Gives (with_cond query r.0 r.1))
+abbrev pub filtered : Option (ℕ → Beside Cond) → OpenQuery → Beside OpenQuery
+filtered None query binds = Gives (query, binds)
+filtered (Some c) query binds = onward (c query.object binds) (λ r. Gives (with_cond query r.0, r.1))
 
-abbrev pub limited : Option (Beside Term) → OpenQuery → Walk OpenQuery
-limited None query = Gives query
-limited (Some t) query = onward (t query.binds) (λ r. Gives (with_limit query r.0 r.1))
+abbrev pub limited : Option (Beside Term) → OpenQuery → Beside OpenQuery
+limited None query binds = Gives (query, binds)
+limited (Some t) query binds = onward (t binds) (λ r. Gives (with_limit query r.0, r.1))
 
-abbrev pub skipped : Option (Beside Term) → OpenQuery → Walk OpenQuery
-skipped None query = Gives query
-skipped (Some t) query = onward (t query.binds) (λ r. Gives (with_offset query r.0 r.1))
+abbrev pub skipped : Option (Beside Term) → OpenQuery → Beside OpenQuery
+skipped None query binds = Gives (query, binds)
+skipped (Some t) query binds = onward (t binds) (λ r. Gives (with_offset query r.0, r.1))
 
 -- ---- the steps
 
@@ -151,13 +151,13 @@ module _ (s : Sight) where
   abbrev pub call_alone : ℕ → Word → List (Walk Typed) → Walk Typed
   call_alone at w args =
       onward (called_alone s.around s.methods w (length args)) (λ callee.
-      onward (all args) (λ values.
+      onward (all (map valued args)) (λ values.
       called s.around (own_receiver s.around.class at) callee at values))
 
   abbrev pub call_on : Word → List (Walk Typed) → PartWalk
   call_on w args value =
       onward (called_on s.around s.methods value w (length args)) (λ callee.
-      onward (all args) (λ values.
+      onward (all (map valued args)) (λ values.
       called s.around value callee w.span.from values))
 
   abbrev pub chain_of : List OperandWalk → Typed → Walk Typed
@@ -165,7 +165,7 @@ module _ (s : Sight) where
 
   -- that the target may be assigned to is told before the faults of the value
   abbrev pub assignment : (Typed → Typed → Walk Typed) → Walk Typed → Typed → Walk Typed
-  assignment assigned_to value target = onward (writable target) (λ _. onward value (assigned_to target))
+  assignment assigned_to value target = onward (writable target) (λ _. onward (valued value) (assigned_to target))
 
   abbrev pub query_of : ℕ → QueryWalk → Walk Typed
   query_of at q =
@@ -179,24 +179,25 @@ module _ (s : Sight) where
   expr_step (Expr-F.Super sp) = super_in s.around sp.from
   expr_step (Expr-F.Name w) = name_in s.around s.locals w
   expr_step (Expr-F.«Expr::Call» sp w args) = call_alone w.span.from w args
-  expr_step (Expr-F.«Expr::Paren» sp x) = onward x (in_parentheses sp.from)
+  expr_step (Expr-F.«Expr::Paren» sp x) = onward (valued x) (λ value. Gives (in_parentheses sp.from value))
   expr_step (Expr-F.New sp t part) = onward (type_of s.around.names t) (part sp.from (out-TypeTree t).span.from)
   expr_step (Expr-F.«Expr::Query» sp q) = query_of sp.from q
   expr_step (Expr-F.Postfix sp x parts) = onward x (parts_from parts)
-  expr_step (Expr-F.Prefix sp op x) = onward x (prefixed s.around.heads sp.from op)
-  expr_step (Expr-F.Cast sp t x) = onward (type_of s.around.names t) (λ kind. onward x (cast_to s.around.heads sp.from kind))
-  expr_step (Expr-F.Chain sp x operands) = onward x (chain_of operands)
-  expr_step (Expr-F.Conditional sp c x y) = onward c (λ test. onward x (λ first. onward y (chosen s.around.heads test first)))
-  expr_step (Expr-F.Assign sp x op v) = onward x (assignment (λ target. assigned_by s.around.heads target op) v)
+  expr_step (Expr-F.Prefix sp op x) = onward (valued x) (prefixed s.around.heads sp.from op)
+  expr_step (Expr-F.Cast sp t x) = onward (type_of s.around.names t) (λ kind. onward (valued x) (cast_to s.around.heads sp.from kind))
+  expr_step (Expr-F.Chain sp x operands) = onward (valued x) (chain_of operands)
+  expr_step (Expr-F.Conditional sp c x y) =
+      onward (valued c) (λ test. onward (valued x) (λ first. onward (valued y) (chosen s.around.heads test first)))
+  expr_step (Expr-F.Assign sp x op v) = onward (valued x) (assignment (λ target. assigned_by s.around.heads target op) v)
 
   abbrev pub item_in : ValueType → ItemWalk → Walk TypedExpr
-  item_in kind i = onward i.item (λ item. onward (maybe i.value) (bare_item s.around.heads kind item))
+  item_in kind i = onward (valued i.item) (λ item. onward (maybe (option_map valued i.value)) (bare_item s.around.heads kind item))
 
   abbrev pub items_in : ValueType → List ItemWalk → List (Walk TypedExpr)
   items_in kind items = map (item_in kind) items
 
   abbrev pub pair_in : ValueType → ItemWalk → Walk TypedItem
-  pair_in kind i = onward i.item (λ item. onward (maybe i.value) (pair_item s.around.heads kind item))
+  pair_in kind i = onward (valued i.item) (λ item. onward (maybe (option_map valued i.value)) (pair_item s.around.heads kind item))
 
   abbrev pub pairs_in : ValueType → List ItemWalk → List (Walk TypedItem)
   pairs_in kind items = map (pair_in kind) items
@@ -208,7 +209,7 @@ module _ (s : Sight) where
   abbrev pub made_by : ℕ → ℕ → ValueType → List (Walk Typed) → Walk Typed
   made_by at type_at kind args =
       onward (maker_of s.around (out-ValueType kind) type_at (length args)) (λ maker.
-      onward (all args) (made_with s.around at kind maker type_at))
+      onward (all (map valued args)) (made_with s.around at kind maker type_at))
 
   abbrev pub record_by : ℕ → List FieldWalk → ℕ → Walk Typed
   record_by at fields object = onward (fields_from object fields []) (λ pairs. Gives (record_with at object pairs))
@@ -221,17 +222,17 @@ module _ (s : Sight) where
   abbrev pub part_step : PostfixPart-F (Walk Typed) NewWalk PartWalk BindWalk (ℕ → Beside Cond) (Beside Term) (Primitive → Beside Terms) SelWalk SelWalk (Primitive → Beside Term) FieldWalk ItemWalk OperandWalk QueryWalk → PartWalk
   part_step (PostfixPart-F.Field w) value = member_of s.around value w
   part_step (PostfixPart-F.«PostfixPart::Call» sp w args) value = call_on w args value
-  part_step (PostfixPart-F.Index sp x) value = onward x (indexed s.around.heads value)
+  part_step (PostfixPart-F.Index sp x) value = onward (value_of value) (λ list. onward (valued x) (indexed s.around.heads list))
   part_step (PostfixPart-F.Step sp op) value = stepped_behind op value
 
   abbrev pub operand_step : Operand-F (Walk Typed) NewWalk PartWalk BindWalk (ℕ → Beside Cond) (Beside Term) (Primitive → Beside Terms) SelWalk SelWalk (Primitive → Beside Term) FieldWalk ItemWalk OperandWalk QueryWalk → OperandWalk
-  operand_step o chain = onward o.right (with_operand s.around.heads chain o.op)
+  operand_step o chain = onward (valued o.right) (with_operand s.around.heads chain o.op)
 
   -- the name of a field is told before its value
   abbrev pub field_step : FieldValue-F (Walk Typed) NewWalk PartWalk BindWalk (ℕ → Beside Cond) (Beside Term) (Primitive → Beside Terms) SelWalk SelWalk (Primitive → Beside Term) FieldWalk ItemWalk OperandWalk QueryWalk → FieldWalk
   field_step f object pairs =
       onward (field_named s.around.objects object pairs f.field) (λ field.
-      onward f.value (λ value.
+      onward (valued f.value) (λ value.
       onward (with_value s.around.heads field value) (λ tree.
       Gives (pairs ++ pair field.field tree ∷ []))))
 
@@ -242,7 +243,10 @@ module _ (s : Sight) where
 
   abbrev pub bind_step : BindTree-F (Walk Typed) NewWalk PartWalk BindWalk (ℕ → Beside Cond) (Beside Term) (Primitive → Beside Terms) SelWalk SelWalk (Primitive → Beside Term) FieldWalk ItemWalk OperandWalk QueryWalk → BindWalk
   bind_step (BindTree-F.Tokens r) = record { at = r.span.from; value = wrong BadQuery r.span.from }
-  bind_step (BindTree-F.Expr sp x) = record { at = sp.from; value = x }
+  bind_step (BindTree-F.Expr sp x) = record { at = sp.from; value = valued x }
+
+  abbrev pub written : Option Cell → ℕ → Beside Term
+  written cell at binds = onward (given cell at) (λ term. Gives (term, binds))
 
   abbrev pub bound_to : Primitive → BindWalk → Beside Term
   bound_to to b binds = onward b.value (λ value. bound s.around.heads to b.at value binds)
@@ -279,33 +283,41 @@ module _ (s : Sight) where
   count_step (CountTree-F.«CountTree::Bind» b) binds = bound_to P.Integer b binds
 
   abbrev pub sel_step : SelTree-F (Walk Typed) NewWalk PartWalk BindWalk (ℕ → Beside Cond) (Beside Term) (Primitive → Beside Terms) SelWalk SelWalk (Primitive → Beside Term) FieldWalk ItemWalk OperandWalk QueryWalk → SelWalk
-  sel_step (SelTree-F.Path p) query = onward (field_path s.around.objects query.object p) (λ found. Gives (with_path query found.path))
-  sel_step (SelTree-F.«SelTree::Query» sp q) query =
+  sel_step (SelTree-F.Path p) query binds = onward (field_path s.around.objects query.object p) (λ found. Gives (with_path query found.path, binds))
+  sel_step (SelTree-F.«SelTree::Query» sp q) query binds =
       onward (children_named s.around.objects query.object q.object) (λ child.
-      onward (q.from child.object query.binds) (λ r.
-      Gives (with_child query child.lookup r.0 r.1)))
+      onward (q.from child.object binds) (λ r.
+      Gives (with_child query child.lookup r.0, r.1)))
 
   abbrev pub select_step : SelectTree-F (Walk Typed) NewWalk PartWalk BindWalk (ℕ → Beside Cond) (Beside Term) (Primitive → Beside Terms) SelWalk SelWalk (Primitive → Beside Term) FieldWalk ItemWalk OperandWalk QueryWalk → SelWalk
-  select_step (SelectTree-F.Count sp) query = Gives (counting query)
-  select_step (SelectTree-F.«SelectTree::Items» items) query = sels_from items query
+  select_step (SelectTree-F.Count sp) query binds = Gives (counting query, binds)
+  select_step (SelectTree-F.«SelectTree::Items» items) query binds = sels_from items query binds
 
-  -- in the order of the text
+  -- ORDER and its keys don't have binds
+  abbrev pub with_keys_of : Option OrderTree → OpenQuery → Beside OpenQuery
+  with_keys_of order query binds = onward (with_order s.around.objects query order) (λ q. Gives (q, binds))
+
+  -- the clauses of a query, in the order of the text
+  abbrev pub clauses : SelWalk → Option (ℕ → Beside Cond) → Option OrderTree → Option (Beside Term) → Option (Beside Term) → OpenQuery → Beside OpenQuery
+  clauses select_of where_of order limit offset query binds =
+      onward (select_of query binds) (λ selected.
+      onward (filtered where_of selected.0 selected.1) (λ found.
+      onward (with_keys_of order found.0 found.1) (λ ordered.
+      onward (limited limit ordered.0 ordered.1) (λ first.
+      skipped offset first.0 first.1))))
+
   abbrev pub query_from : QueryTree-F (Walk Typed) NewWalk PartWalk BindWalk (ℕ → Beside Cond) (Beside Term) (Primitive → Beside Terms) SelWalk SelWalk (Primitive → Beside Term) FieldWalk ItemWalk OperandWalk QueryWalk → ℕ → Beside Query
   query_from q object binds =
-      onward (q.select (opened object binds)) (λ selected.
-      onward (filtered q.«cond» selected) (λ found.
-      onward (with_order s.around.objects found q.order) (λ ordered.
-      onward (limited q.limit ordered) (λ first.
-      onward (skipped q.offset first) (λ rest.
-      Gives (closed_query rest q.locked))))))
+      onward (clauses q.select q.«cond» q.order q.limit q.offset (opened object) binds) (λ r. Gives (closed_query r.0 q.locked, r.1))
 
   abbrev pub query_step : QueryTree-F (Walk Typed) NewWalk PartWalk BindWalk (ℕ → Beside Cond) (Beside Term) (Primitive → Beside Terms) SelWalk SelWalk (Primitive → Beside Term) FieldWalk ItemWalk OperandWalk QueryWalk → QueryWalk
   query_step q = record { object = q.object; from = query_from q }
 
   -- ---- the folds
 
-  abbrev pub expression : Expr → Walk Typed
-  expression = fold-Expr (Walk Typed) NewWalk PartWalk BindWalk (ℕ → Beside Cond) (Beside Term) (Primitive → Beside Terms) SelWalk SelWalk (Primitive → Beside Term) FieldWalk ItemWalk OperandWalk QueryWalk expr_step new_step part_step bind_step cond_step count_step list_step sel_step select_step value_step field_step item_step operand_step query_step
+  -- an expression that may be a name before a dot, of a class and its like, or `super`
+  abbrev pub bare : Expr → Walk Typed
+  bare = fold-Expr (Walk Typed) NewWalk PartWalk BindWalk (ℕ → Beside Cond) (Beside Term) (Primitive → Beside Terms) SelWalk SelWalk (Primitive → Beside Term) FieldWalk ItemWalk OperandWalk QueryWalk expr_step new_step part_step bind_step cond_step count_step list_step sel_step select_step value_step field_step item_step operand_step query_step
 
   abbrev pub new_part : NewPart → NewWalk
   new_part = fold-NewPart (Walk Typed) NewWalk PartWalk BindWalk (ℕ → Beside Cond) (Beside Term) (Primitive → Beside Terms) SelWalk SelWalk (Primitive → Beside Term) FieldWalk ItemWalk OperandWalk QueryWalk expr_step new_step part_step bind_step cond_step count_step list_step sel_step select_step value_step field_step item_step operand_step query_step
@@ -345,3 +357,13 @@ module _ (s : Sight) where
 
   abbrev pub query : QueryTree → QueryWalk
   query = fold-QueryTree (Walk Typed) NewWalk PartWalk BindWalk (ℕ → Beside Cond) (Beside Term) (Primitive → Beside Terms) SelWalk SelWalk (Primitive → Beside Term) FieldWalk ItemWalk OperandWalk QueryWalk expr_step new_step part_step bind_step cond_step count_step list_step sel_step select_step value_step field_step item_step operand_step query_step
+
+  -- an expression that is a value
+  abbrev pub expression : Expr → Walk Typed
+  expression t = valued (bare t)
+
+  -- the clauses of a query from its tree
+  abbrev pub clauses_of : QueryTree → OpenQuery → Beside OpenQuery
+  clauses_of t =
+      clauses (select (out-QueryTree t).select) (option_map condition (out-QueryTree t).«cond») (out-QueryTree t).order
+      (option_map count (out-QueryTree t).limit) (option_map count (out-QueryTree t).offset)

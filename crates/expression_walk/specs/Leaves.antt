@@ -1,6 +1,6 @@
 -- What is made of the parts of an expression (docs/language.md, "The walk over expressions").
 use Rattle.std.specs.Prelude.{ℕ, Bool, true, false, cond, List, Option, None, Some}
-use Rattle.apex_schema.specs.declared.reply.FaultWord.TheVariants.{WrongType, WrongArguments}
+use Rattle.fault_words.specs.declared.fault.FaultWord.TheVariants.{WrongType, WrongArguments}
 use Rattle.apex_syntax.specs.declared.expr.AssignOp.{AssignOp}
 use Rattle.apex_syntax.specs.declared.expr.AssignOp.TheVariants as A
 use Rattle.apex_syntax.specs.declared.expr.BinaryOp.{BinaryOp}
@@ -13,22 +13,22 @@ use Rattle.apex_syntax.specs.declared.expr.StepOp.{StepOp}
 use Rattle.apex_syntax.specs.declared.expr.StepOp.TheVariants as S
 use Rattle.apex_syntax.specs.declared.query.NumberTree.{NumberTree}
 use Rattle.apex_syntax.specs.declared.query.NumberTree.TheVariants as N
-use Rattle.builtin_calls.specs.BuiltinCalls.{builtin_call, type_call, debug_call}
-use Rattle.class_heads.specs.declared.head.ClassHead.{ClassHead}
-use Rattle.declared_calls.specs.DeclaredCalls.{static_call, method_call}
+use Rattle.typed_calls.specs.BuiltinCalls.{builtin_call, type_call, debug_call}
+use Rattle.class_tables.specs.declared.head.ClassHead.{ClassHead}
+use Rattle.typed_calls.specs.DeclaredCalls.{static_call, method_call}
 use Rattle.method_calls.specs.declared.callee.Callee.{Callee}
 use Rattle.method_calls.specs.declared.callee.Callee.TheVariants as C
 use Rattle.name_meanings.specs.Settings.{Around}
 use Rattle.static_types.specs.declared.kind.Primitive.{Primitive}
 use Rattle.static_types.specs.declared.kind.Primitive.TheVariants as P
 use Rattle.static_types.specs.declared.kind.ValueType.TheVariants as V
-use Rattle.type_names.specs.Walks.{Walk, Gives, wrong}
+use Rattle.type_names.specs.Walks.{Walk, Gives, wrong, onward}
 use Rattle.typed_operations.specs.Assignments.{assigned, assigned_with}
 use Rattle.typed_operations.specs.Prefixes.{negated, opposite, stepped}
-use Rattle.typed_trees.specs.declared.expr.Constant.{Constant}
-use Rattle.typed_trees.specs.declared.expr.Constant.TheVariants as K
-use Rattle.typed_trees.specs.declared.expr.StepKind.{StepKind}
-use Rattle.typed_trees.specs.declared.expr.TypedExpr.TheVariants as T
+use Rattle.typed_program.specs.declared.expr.Constant.{Constant}
+use Rattle.typed_program.specs.declared.expr.Constant.TheVariants as K
+use Rattle.typed_program.specs.declared.expr.StepKind.{StepKind}
+use Rattle.typed_program.specs.declared.expr.TypedExpr.TheVariants as T
 use Rattle.typed_values.specs.declared.typed.Kind.{Kind}
 use Rattle.typed_values.specs.declared.typed.Kind.TheVariants.{Nothing, Null, Faulty, Is}
 use Rattle.typed_values.specs.declared.typed.Role.{Role}
@@ -63,9 +63,16 @@ is_value (R.Space space) = false
 is_value R.Super = false
 is_value _ = true
 
+-- where a value is needed, such a name is told at once
+abbrev pub value_of : Typed → Walk Typed
+value_of value = cond (is_value value.role) (Gives value) (wrong WrongType value.at)
+
+abbrev pub valued : Walk Typed → Walk Typed
+valued walk = onward walk value_of
+
 -- what stands in parentheses is read for its value alone
-abbrev pub in_parentheses : ℕ → Typed → Walk Typed
-in_parentheses at value = cond (is_value value.role) (Gives (typed at value.kind R.Plain value.tree)) (wrong WrongType value.at)
+abbrev pub in_parentheses : ℕ → Typed → Typed
+in_parentheses at value = typed at value.kind R.Plain value.tree
 
 abbrev pub step : Bool → Bool → StepKind
 step up before = record { up = up; before = before }

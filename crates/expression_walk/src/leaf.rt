@@ -2,23 +2,22 @@
 
 ghost use Rattle.std.specs.Prelude.{◌≡◌, IfOk};
 ghost use Rattle.name_meanings.specs.Settings.{around};
-ghost use Rattle.type_names.specs.Walks.{Comes, Tells};
+ghost use Rattle.type_names.specs.Walks.{Comes, Gives, Tells};
 ghost use Rattle.expression_walk.specs.Leaves as spec;
 
 use apex_list::Items;
 use apex_num::NoMemory;
-use apex_schema::FaultWord;
 use apex_syntax::{AssignOp, BinaryOp, Literal, NumberTree, PrefixOp, StepOp};
-use builtin_calls::{builtin_call, debug_call, type_call};
-use class_heads::ClassHeads;
-use declared_calls::{method_call, static_call};
+use class_tables::ClassHeads;
+use fault_words::FaultWord;
 use method_calls::Callee;
 use name_meanings::Setting;
 use static_types::{Primitive, ValueType};
 use std::alloc::Global;
 use type_names::{TreeFault, WalkFault};
+use typed_calls::{builtin_call, debug_call, method_call, static_call, type_call};
 use typed_operations::{assigned, assigned_with, negated, opposite, stepped};
-use typed_trees::{Constant, StepKind, TypedExpr};
+use typed_program::{Constant, StepKind, TypedExpr};
 use typed_values::{Kind, Role, Typed};
 
 fn primitive(
@@ -53,8 +52,7 @@ fn text(alloc: Global, at: usize, bytes: &Items<u8>) -> Result<Typed, NoMemory>
     primitive(alloc, at, Primitive::String, Constant::Text(bytes))
 }
 
-/// A literal that stands at this byte.
-pub fn literal(alloc: Global, at: usize, literal: &Literal) -> Result<Typed, NoMemory>
+fn constant(alloc: Global, at: usize, literal: &Literal) -> Result<Typed, NoMemory>
     ensures { IfOk result (λ t. t ≡ spec.literal at literal.now) }
 {
     match literal {
@@ -67,6 +65,13 @@ pub fn literal(alloc: Global, at: usize, literal: &Literal) -> Result<Typed, NoM
     }
 }
 
+/// A literal that stands at this byte.
+pub fn literal(alloc: Global, at: usize, literal: &Literal) -> Result<Typed, WalkFault>
+    ensures { Comes (Gives (spec.literal at literal.now)) result }
+{
+    Ok(constant(alloc, at, literal)?)
+}
+
 /// Whether an expression is a value, and not the name of a class and its like, or `super`.
 pub fn is_value(role: Role) -> bool
     ensures { result ≡ spec.is_value role }
@@ -77,20 +82,26 @@ pub fn is_value(role: Role) -> bool
     }
 }
 
-/// A value in parentheses, the first of which stands at this byte: it is read for its value alone. `WrongType` at what
-/// stands in them where that is a name that is no value, or `super`.
-pub fn in_parentheses(at: usize, value: Typed) -> Result<Typed, TreeFault>
-    ensures { Tells (spec.in_parentheses at value) result }
+/// An expression where a value is needed: `WrongType` at a name that is none, and at `super`.
+pub fn value_of(value: Typed) -> Result<Typed, TreeFault>
+    ensures { Tells (spec.value_of value) result }
 {
     if is_value(value.role) {
-        Ok(Typed {
-            at,
-            kind: value.kind,
-            role: Role::Plain,
-            tree: value.tree,
-        })
+        Ok(value)
     } else {
         Err(TreeFault::new(FaultWord::WrongType, value.at))
+    }
+}
+
+/// A value in parentheses, the first of which stands at this byte: it is read for its value alone.
+pub fn in_parentheses(at: usize, value: Typed) -> Typed
+    ensures { result ≡ spec.in_parentheses at value }
+{
+    Typed {
+        at,
+        kind: value.kind,
+        role: Role::Plain,
+        tree: value.tree,
     }
 }
 
@@ -124,13 +135,25 @@ pub fn prefixed(
     }
 }
 
+fn is_up(op: StepOp) -> bool
+    ensures { result ≡ spec.is_up op }
+{
+    match op {
+        StepOp::Increment => true,
+        StepOp::Decrement => false,
+    }
+}
+
 /// `++` or `--` behind an operand.
 pub fn stepped_behind(alloc: Global, op: StepOp, value: Typed) -> Result<Typed, WalkFault>
     ensures { Comes (spec.stepped_behind op value) result }
 {
-    let up = op == StepOp::Increment;
     let at = value.at;
-    stepped(alloc, at, StepKind { up, before: false }, value)
+    let step = StepKind {
+        up: is_up(op),
+        before: false,
+    };
+    stepped(alloc, at, step, value)
 }
 
 // The operator that an assignment applies first.

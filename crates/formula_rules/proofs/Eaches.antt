@@ -1,10 +1,9 @@
 -- Formulas with commas between them.
 use Rattle.std.proofs.lemmas.List.{append-nil}
-use Rattle.std.proofs.Common.{arith, ◌≡◌, ◌≤◌, ◌<◌, ◌+◌, ◌-◌, ℕ, zero, suc, Bool, true, false, List, [], ◌∷◌, ◌++◌, length, drop, Option, Some, None, Result, Ok, Err, inl, inr, refl, sym, ap, ◌∙◌, subst, append_assoc}
+use Rattle.std.proofs.Common.{◌≡◌, ℕ, true, false, List, [], ◌∷◌, ◌++◌, drop, Ok, Err, refl, sym, ap, ◌∙◌, subst, append_assoc}
 use Rattle.formula_rules.specs.declared.fault.RuleFault.{RuleFault}
-use Rattle.formula_rules.specs.declared.fault.RuleFault.TheVariants.{BadRule, NoMemory}
 use Rattle.formula_rules.specs.declared.token.Token.{Token}
-use Rattle.formula_rules.specs.declared.token.Token.TheVariants.{Word, Number, Text, Op, Open, Close, Comma}
+use Rattle.formula_rules.specs.declared.token.Token.TheVariants.{Comma}
 use Rattle.formula_rules.specs.Grammar.{Each}
 use Rattle.formula_rules.specs.Readings.{is_unopened, is_closed, is_comma, Told}
 use Rattle.formula_rules.proofs.Told.{fails, denied, unopened}

@@ -1,13 +1,13 @@
 -- The value of a formula, by its parts.
 use Rattle.std.proofs.Common.{◌≡◌, Bool, ◌&&◌, ◌||◌, List, [], ◌∷◌, map, Option, refl, sym, ap, ◌∙◌}
 use Rattle.std.specs.List.{list_all, list_any}
-use Rattle.apex_schema.specs.declared.row.Row.{Row}
+use Rattle.apex_rows.specs.declared.row.Row.{Row}
 use Rattle.apex_schema.specs.declared.rule.Rule.{Rule}
 use Rattle.apex_schema.specs.declared.rule.Rule.TheVariants.{And, Or, rolls-And, rolls-Or}
 use Rattle.apex_schema.specs.declared.rule.Rule.TheFolds.{fold-Rule, fold-roll-Rule}
 use Rattle.apex_schema.specs.declared.rule.Rule.TheOpen.{Rule-F}
-use Rattle.apex_schema.specs.Rules.{rule_step, rule_value}
-use Rattle.apex_schema.specs.Formulas.{fit_step, rule_fits}
+use Rattle.row_meaning.specs.Rules.{rule_step, rule_value}
+use Rattle.schema_plans.specs.Formulas.{fit_step, rule_fits}
 use Rattle.apex_schema.specs.declared.schema.Field.{Field}
 
 any_map : (f : Rule → Bool) (rules : List Rule) → list_any (λ b. b) (map f rules) ≡ list_any f rules

@@ -1,16 +1,14 @@
 -- Formulas: comparisons and calls.
-use Rattle.std.proofs.Common.{arith, ◌≡◌, ◌≤◌, ◌<◌, ◌+◌, ◌-◌, ℕ, zero, suc, Bool, true, false, List, [], ◌∷◌, ◌++◌, length, drop, Option, Some, None, Result, Ok, Err, inl, inr, refl, sym, ap, ◌∙◌, subst, append_assoc}
+use Rattle.std.proofs.Common.{◌≡◌, ℕ, zero, suc, true, false, List, ◌∷◌, ◌++◌, drop, Some, None, Result, Ok, Err, inl, inr, refl, sym, ap, ◌∙◌, append_assoc}
 use Rattle.apex_schema.specs.declared.rule.RuleTerm.{RuleTerm}
 use Rattle.apex_schema.specs.declared.rule.Rule.{Rule}
-use Rattle.apex_schema.specs.declared.rule.Rule.TheVariants as Form
 use Rattle.formula_rules.specs.declared.fault.RuleFault.{RuleFault}
-use Rattle.formula_rules.specs.declared.fault.RuleFault.TheVariants.{BadRule, NoMemory}
 use Rattle.formula_rules.specs.declared.token.Token.{Token}
-use Rattle.formula_rules.specs.declared.token.Token.TheVariants.{Word, Number, Text, Op, Open, Close, Comma}
+use Rattle.formula_rules.specs.declared.token.Token.TheVariants.{Word, Op, Open, Close}
 use Rattle.formula_rules.specs.declared.words.Function.{Function}
 use Rattle.formula_rules.specs.declared.words.Function.TheVariants as Function'
-use Rattle.formula_rules.specs.Grammar.{function_of, One, Called, Each, OfEach, term_of, IsMeasure, IsTerm, IsComparison, IsInside, IsFormulaWithin}
-use Rattle.formula_rules.specs.Readings.{is_unopened, is_closed, is_of_formulas, called, Opens, Told, Reads, Gives}
+use Rattle.formula_rules.specs.Grammar.{Called, Each, OfEach, IsMeasure, IsTerm, IsComparison, IsInside, IsFormulaWithin}
+use Rattle.formula_rules.specs.Readings.{is_unopened, is_closed, is_of_formulas, called, Opens, Told, Reads}
 use Rattle.formula_rules.proofs.Told.{fails, denied, unopened, same_call, opened_call}
 
 pub flat : (names : List (List ℕ)) (tokens : List Token) (at : ℕ) (answer : Result (Rule × ℕ) RuleFault) → Told (IsComparison names zero) is_unopened tokens at answer → Told (IsFormulaWithin names zero) is_unopened tokens at answer

@@ -1,5 +1,5 @@
 -- Runs of bytes, and the tokens of a text from a place on.
-use Rattle.std.proofs.Common.{arith, get_or, option_map, Err, ◌≢◌, ◌≡◌, ◌≤◌, ◌<◌, ◌+◌, ◌&&◌, ◌||◌, ℕ, zero, suc, Bool, true, false, cond, eqb, ltb, IsTrue, List, [], ◌∷◌, ◌++◌, length, take, drop, Option, Some, None, refl, sym, ap, ◌∙◌, subst, append_assoc}
+use Rattle.std.proofs.Common.{arith, get_or, option_map, Err, ◌≢◌, ◌≡◌, ◌≤◌, ◌<◌, ◌+◌, ℕ, zero, suc, Bool, true, false, cond, List, [], ◌∷◌, ◌++◌, length, take, drop, Some, None, refl, sym, ap, ◌∙◌, subst, append_assoc}
 use Rattle.formula_rules.specs.declared.token.Token.{Token}
 use Rattle.formula_rules.specs.declared.token.Token.TheVariants.{Text}
 use Rattle.std.proofs.lemmas.Bool.Decides.{nat_tests}
@@ -12,7 +12,6 @@ use Rattle.formula_rules.specs.declared.fault.RuleFault.{RuleFault}
 use Rattle.formula_rules.specs.declared.fault.RuleFault.TheVariants.{BadRule, NoMemory}
 use Rattle.formula_rules.specs.Readings.{NextIs, AreTokens}
 use Rattle.std.specs.Str.{IsUtf8, is_utf8}
-use Rattle.std.specs.Str.{IsAscii}
 use Rattle.formula_rules.specs.Tokens.{run, behind, is_blank, is_number_byte, is_quoted, text_of, closed, text_at, token_at, HasTokens}
 
 take_step : (c : Bool) (b : ℕ) (bs rs : List ℕ) → take (length rs) bs ≡ rs → take (length (cond c (b ∷ rs) [])) (b ∷ bs) ≡ cond c (b ∷ rs) []

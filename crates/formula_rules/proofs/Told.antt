@@ -1,5 +1,5 @@
 -- Readings, put together.
-use Rattle.std.proofs.Common.{arith, ◌≡◌, ◌≤◌, ◌<◌, ◌+◌, ◌-◌, ℕ, zero, suc, Bool, true, false, IsTrue, List, [], ◌∷◌, ◌++◌, length, drop, Option, Some, None, Result, Ok, Err, inl, inr, refl, sym, ap, ◌∙◌, subst, append_assoc}
+use Rattle.std.proofs.Common.{◌≡◌, ℕ, Bool, true, false, List, [], ◌∷◌, ◌++◌, drop, Option, Some, None, Ok, Err, refl, sym, ap, ◌∙◌, subst, append_assoc}
 use Rattle.formula_rules.specs.declared.fault.RuleFault.{RuleFault}
 use Rattle.formula_rules.specs.declared.fault.RuleFault.TheVariants.{BadRule, NoMemory}
 use Rattle.formula_rules.specs.declared.token.Token.{Token}
@@ -9,8 +9,8 @@ use Rattle.apex_schema.specs.declared.rule.RuleOp.{RuleOp}
 use Rattle.apex_schema.specs.declared.rule.RuleTerm.{RuleTerm}
 use Rattle.apex_schema.specs.declared.rule.Rule.{Rule}
 use Rattle.apex_schema.specs.declared.rule.Rule.TheVariants as Form
-use Rattle.formula_rules.specs.Grammar.{function_of, One, OfField, field_of, Calls, Called, IsTerm, IsComparison}
-use Rattle.formula_rules.specs.Readings.{is_unopened, is_closed, op_of, called, Opens, Told, Reads, Gives}
+use Rattle.formula_rules.specs.Grammar.{function_of, One, OfField, field_of, Called, IsTerm, IsComparison}
+use Rattle.formula_rules.specs.Readings.{is_unopened, is_closed, op_of, Opens, Told}
 
 -- a fault that isn't want of memory says that nothing was meant
 pub fails : {A : Type 0} (means : List Token → A → Type 0) (ends : List Token → Bool) (tokens : List Token) (at : ℕ) (fault : RuleFault)

@@ -1,14 +1,14 @@
 -- Readings of all tokens, and of a whole text.
 use Rattle.std.proofs.lemmas.List.{append-nil, length-drop, drop_all}
 use Rattle.std.proofs.lemmas.Option.{same_Some}
-use Rattle.std.proofs.Common.{arith, ◌≡◌, ◌≤◌, ◌<◌, ◌+◌, ◌-◌, ℕ, zero, suc, Bool, true, false, IsTrue, List, [], ◌∷◌, ◌++◌, length, drop, Result, Ok, Err, refl, sym, ap, ◌∙◌, subst}
+use Rattle.std.proofs.Common.{arith, ◌≡◌, ◌≤◌, ◌<◌, ℕ, true, false, IsTrue, List, [], ◌∷◌, ◌++◌, length, drop, Ok, Err, refl, sym, ap, ◌∙◌, subst}
 use Rattle.apex_schema.specs.declared.schema.Object.{Object}
 use Rattle.apex_schema.specs.declared.rule.Rule.{Rule}
-use Rattle.apex_schema.specs.Formulas.{rule_fits}
+use Rattle.schema_plans.specs.Formulas.{rule_fits}
 use Rattle.formula_rules.specs.declared.fault.RuleFault.{RuleFault}
 use Rattle.formula_rules.specs.declared.fault.RuleFault.TheVariants.{BadRule, NoMemory}
 use Rattle.formula_rules.specs.declared.token.Token.{Token}
-use Rattle.formula_rules.specs.Tokens.{token_at, behind, is_blank, HasTokens}
+use Rattle.formula_rules.specs.Tokens.{token_at, HasTokens}
 use Rattle.formula_rules.specs.Grammar.{field_names, IsFormulaWithin, IsFormula}
 use Rattle.formula_rules.specs.Readings.{is_unopened, Told, IsWhole, AreTokens}
 

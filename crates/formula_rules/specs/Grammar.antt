@@ -1,8 +1,8 @@
 -- Which tokens are which formula (docs/platform.md, "Validation rules").
 use Rattle.std.specs.Prelude.{◌≡◌, ℕ, zero, suc, Bool, true, false, cond, bytes_eq, codes, ◌⊎◌, List, [], ◌∷◌, ◌++◌, map, Option, None, Some, option_map, IsTrue}
 use Rattle.apex_text.specs.Fold.{folded}
-use Rattle.apex_schema.specs.Names.{place_of}
-use Rattle.apex_schema.specs.Formulas.{rule_fits}
+use Rattle.schema_names.specs.Names.{place_of}
+use Rattle.schema_plans.specs.Formulas.{rule_fits}
 use Rattle.apex_schema.specs.declared.schema.Field.{Field}
 use Rattle.apex_schema.specs.declared.schema.Object.{Object}
 use Rattle.apex_schema.specs.declared.rule.RuleOp.{RuleOp}

@@ -1,6 +1,5 @@
 -- What a call that reads a formula tells.
-use Rattle.std.specs.Prelude.{◌≡◌, ◌≢◌, ◌<◌, ◌≤◌, ℕ, length, Bool, true, false, List, [], ◌∷◌, ◌++◌, drop, cond, Option, None, Some, Result, Ok, Err}
-use Rattle.std.specs.Str.{is_utf8}
+use Rattle.std.specs.Prelude.{◌≡◌, ◌≢◌, ◌<◌, ◌≤◌, ℕ, length, Bool, true, false, List, [], ◌∷◌, ◌++◌, drop, Option, None, Some, Result, Ok, Err}
 use Rattle.formula_rules.specs.declared.fault.RuleFault.{RuleFault}
 use Rattle.formula_rules.specs.declared.fault.RuleFault.TheVariants.{BadRule, NoMemory}
 use Rattle.formula_rules.specs.declared.scan.Cut.{Cut}
@@ -9,7 +8,7 @@ use Rattle.formula_rules.specs.declared.token.Token.{Token}
 use Rattle.formula_rules.specs.declared.token.Token.TheVariants.{Word, Op, Open, Close, Comma}
 use Rattle.formula_rules.specs.declared.words.Function.{Function}
 use Rattle.formula_rules.specs.declared.words.Function.TheVariants as Function'
-use Rattle.apex_schema.specs.Names.{is_word_byte}
+use Rattle.schema_names.specs.Names.{is_word_byte}
 use Rattle.apex_schema.specs.declared.rule.RuleOp.{RuleOp}
 use Rattle.formula_rules.specs.Tokens.{is_blank, is_number_byte, is_quoted, behind, token_at, HasTokens}
 use Rattle.formula_rules.specs.Grammar.{function_of}

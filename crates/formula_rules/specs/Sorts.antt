@@ -1,6 +1,6 @@
 -- The types of terms.
 use Rattle.std.specs.Prelude.{Option, option_map}
-use Rattle.apex_schema.specs.Formulas as types
+use Rattle.schema_plans.specs.Formulas as types
 use Rattle.formula_rules.specs.declared.types.Sort.{Sort}
 
 abbrev pub shows : Sort → types.Sort

@@ -2,7 +2,7 @@
 use Rattle.std.specs.Prelude.{◌≡◌, ℕ, ℤ, ◌||◌, not, Bool, false, eqb, cond, List, [], ◌∷◌, drop, slice_get, Option, None, Some, option_map}
 use Rattle.std.specs.Str.{is_utf8}
 use Rattle.apex_text.specs.Fold.{folded}
-use Rattle.apex_schema.specs.Names.{is_letter, is_digit, is_word_byte}
+use Rattle.schema_names.specs.Names.{is_letter, is_digit, is_word_byte}
 use Rattle.apex_schema.specs.declared.rule.RuleOp.TheVariants as Op'
 use Rattle.number_methods.specs.Values.{only_if, decimal_fits, decimal_value}
 use Rattle.formula_rules.specs.declared.token.Token.{Token}

@@ -1,7 +1,7 @@
 // Formulas, read from their tokens.
 
 ghost use Rattle.std.specs.Prelude.{◌≡◌, ◌≤◌, ◌<◌, ◌+◌, ◌-◌, ◌∷◌, [], drop, length, true, false, None, MatchOption, MatchResult, IfOk, IfSome, OnSome};
-ghost use Rattle.apex_schema.specs.Names.{place_of};
+ghost use Rattle.schema_names.specs.Names.{place_of};
 ghost use Rattle.formula_rules.specs.declared.fault.RuleFault.TheVariants.{BadRule};
 ghost use Rattle.formula_rules.specs.declared.token.Token.TheVariants as Token';
 ghost use Rattle.formula_rules.specs.Grammar as grammar;
@@ -13,8 +13,9 @@ use crate::token::Token;
 use crate::words::{Function, function_of, truth_of};
 use apex_list::{Boxed, Items};
 use apex_num::NoMemory;
-use apex_schema::{Places, Rule, RuleOp, RuleTerm};
+use apex_schema::{Rule, RuleOp, RuleTerm};
 use apex_text::Name;
+use schema_names::Places;
 use std::alloc::Global;
 
 // The token at a place; none behind the last.
@@ -215,18 +216,19 @@ fn term(
 
 // A comparison of two terms.
 fn comparison(
+    alloc: Global,
     fields: &Places,
     tokens: &[Token],
     at: usize,
     room: usize,
-) -> Result<(Rule, usize), RuleFault>
+) -> Result<(Boxed<Rule>, usize), RuleFault>
     ensures told { Told (grammar.IsComparison fields.now.names.items room) readings.is_unopened tokens.now at result }
     ensures on { IfOk result (λ r. (at < r.1) × (r.1 ≤ length tokens.now)) }
 {
     let (left, middle) = term(fields, tokens, at, room)?;
     let (op, behind) = op_at(tokens, middle)?;
     let (right, end) = term(fields, tokens, behind, room)?;
-    Ok((Rule::Compare(left, op, right), end))
+    Ok((Boxed::new(alloc, Rule::Compare(left, op, right))?, end))
 }
 
 // ---- formulas
@@ -239,22 +241,22 @@ pub fn formula(
     tokens: &[Token],
     at: usize,
     room: usize,
-) -> Result<(Rule, usize), RuleFault>
+) -> Result<(Boxed<Rule>, usize), RuleFault>
     ensures told { Told (grammar.IsFormulaWithin fields.now.names.items room) readings.is_unopened tokens.now at result }
     ensures on { IfOk result (λ r. (at < r.1) × (r.1 ≤ length tokens.now)) }
 {
     if room == 0 {
-        return comparison(fields, tokens, at, room);
+        return comparison(alloc, fields, tokens, at, room);
     }
     match called_at(tokens, at) {
         Some((function, inside)) => {
             if function.is_of_formulas() {
                 call(alloc, fields, tokens, at, room, function, inside)
             } else {
-                comparison(fields, tokens, at, room)
+                comparison(alloc, fields, tokens, at, room)
             }
         }
-        None => comparison(fields, tokens, at, room),
+        None => comparison(alloc, fields, tokens, at, room),
     }
 }
 
@@ -268,7 +270,7 @@ fn call(
     room: usize,
     function: Function,
     inside: usize,
-) -> Result<(Rule, usize), RuleFault>
+) -> Result<(Boxed<Rule>, usize), RuleFault>
     requires room { 0 < room }
     requires opens { readings.Opens tokens.now at function inside }
     requires on { (at < inside) × (inside ≤ length tokens.now) }
@@ -289,7 +291,7 @@ fn inside_of(
     at: usize,
     room: usize,
     function: Function,
-) -> Result<(Rule, usize), RuleFault>
+) -> Result<(Boxed<Rule>, usize), RuleFault>
     requires { at ≤ length tokens.now }
     ensures told { Told (grammar.IsInside fields.now.names.items (grammar.IsFormulaWithin fields.now.names.items room) function) readings.is_closed tokens.now at result }
     ensures on { IfOk result (λ r. (at ≤ r.1) × (r.1 ≤ length tokens.now)) }
@@ -297,25 +299,25 @@ fn inside_of(
     match function {
         Function::And => {
             let (rules, end) = each(alloc, fields, tokens, at, room)?;
-            Ok((Rule::And(rules), end))
+            Ok((Boxed::new(alloc, Rule::And(rules))?, end))
         }
         Function::Or => {
             let (rules, end) = each(alloc, fields, tokens, at, room)?;
-            Ok((Rule::Or(rules), end))
+            Ok((Boxed::new(alloc, Rule::Or(rules))?, end))
         }
         Function::Not => {
             let (inner, end) = formula(alloc, fields, tokens, at, room)?;
-            Ok((Rule::Not(Boxed::new(alloc, inner)?), end))
+            Ok((Boxed::new(alloc, Rule::Not(inner))?, end))
         }
         Function::IsBlank => {
             let (n, end) = field(fields, tokens, at)?;
-            Ok((Rule::IsBlank(n), end))
+            Ok((Boxed::new(alloc, Rule::IsBlank(n))?, end))
         }
         Function::IsChanged => {
             let (n, end) = field(fields, tokens, at)?;
-            Ok((Rule::IsChanged(n), end))
+            Ok((Boxed::new(alloc, Rule::IsChanged(n))?, end))
         }
-        Function::IsNew => Ok((Rule::IsNew, at)),
+        Function::IsNew => Ok((Boxed::new(alloc, Rule::IsNew)?, at)),
         Function::PriorValue | Function::Len => Err(RuleFault::BadRule),
     }
 }
@@ -334,10 +336,10 @@ fn each(
 {
     let mut rules = Items::new(alloc);
     let (first, mut end) = formula(alloc, fields, tokens, at, room)?;
-    rules.push(first)?;
+    rules.push(first.into_value())?;
     while let Some(behind) = behind_comma(tokens, end) {
         let (rule, next) = formula(alloc, fields, tokens, behind, room)?;
-        rules.push(rule)?;
+        rules.push(rule.into_value())?;
         end = next;
     }
     Ok((rules, end))

@@ -3,15 +3,16 @@
 ghost use Rattle.std.specs.Prelude.{◌≡◌, ◌&&◌, ◌||◌, not};
 ghost use Rattle.std.specs.List.{list_all, list_any};
 ghost use Rattle.std.specs.Option.{option_copied};
-ghost use Rattle.apex_schema.specs.Conds.{cell_of, or_null};
-ghost use Rattle.apex_schema.specs.Cells.{is_null as null};
-ghost use Rattle.apex_schema.specs.Rules.{rule_compares, is_blank as blank, prior as before, term_cell, rule_value};
+ghost use Rattle.row_meaning.specs.Conds.{cell_of, or_null};
+ghost use Rattle.row_meaning.specs.Cells.{is_null as null};
+ghost use Rattle.row_meaning.specs.Rules.{rule_compares, is_blank as blank, prior as before, term_cell, rule_value};
 ghost use Rattle.formula_rules.specs.Values.{shows};
 
 use crate::value::{Value, same, scalars, seen, stand};
 use apex_list::Items;
 use apex_num::Cell;
-use apex_schema::{Row, Rule, RuleOp, RuleTerm};
+use apex_rows::Row;
+use apex_schema::{Rule, RuleOp, RuleTerm};
 use std::cmp::Ordering;
 
 // The cell of a field, if the row has it.

@@ -14,6 +14,3 @@ mod words;
 pub use fault::RuleFault;
 pub use holds::rule_holds;
 pub use read::{field_places, read_rule, read_rule_by};
-
-#[cfg(test)]
-mod tests;

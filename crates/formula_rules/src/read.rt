@@ -11,9 +11,11 @@ use crate::grammar::formula;
 use crate::scan::tokens_of;
 use crate::token::Token;
 use crate::types::rule_fits;
+use apex_list::Boxed;
 use apex_num::NoMemory;
-use apex_schema::{Field, Object, Places, Rule};
+use apex_schema::{Field, Object, Rule};
 use apex_text::Name;
+use schema_names::Places;
 use std::alloc::Global;
 
 // How many parentheses may be open at once.
@@ -32,7 +34,7 @@ pub fn field_places(alloc: Global, fields: &[Field]) -> Result<Places, NoMemory>
 }
 
 // The formula that these tokens are, all of them.
-fn whole(alloc: Global, fields: &Places, tokens: &[Token]) -> Result<Rule, RuleFault>
+fn whole(alloc: Global, fields: &Places, tokens: &[Token]) -> Result<Boxed<Rule>, RuleFault>
     ensures { IsWhole (IsFormulaWithin fields.now.names.items 64) tokens.now result }
 {
     let (rule, end) = formula(alloc, fields, tokens, 0, ROOM)?;
@@ -49,7 +51,7 @@ pub fn read_rule_by(
     fields: &Places,
     object: &Object,
     text: &[u8],
-) -> Result<Rule, RuleFault>
+) -> Result<Boxed<Rule>, RuleFault>
     requires { fields.now.names.items ≡ field_names object.now.fields }
     ensures reads { IfOk result (λ rule. IsFormula object.now text.now rule) }
     ensures only { IfOk result (λ rule. (other : Rule') → IsFormula object.now text.now other → other ≡ rule) }
@@ -57,7 +59,7 @@ pub fn read_rule_by(
 {
     let tokens = tokens_of(alloc, text)?;
     let rule = whole(alloc, fields, tokens.as_slice())?;
-    if rule_fits(object.fields.as_slice(), &rule) {
+    if rule_fits(object.fields.as_slice(), rule.get()) {
         Ok(rule)
     } else {
         Err(RuleFault::BadRule)
@@ -74,5 +76,6 @@ pub fn read_rule(alloc: Global, object: &Object, text: &[u8]) -> Result<Rule, Ru
     ensures none { IfErr result (λ fault. fault ≡ BadRule → (rule : Rule') → IsFormula object.now text.now rule → ⊥) }
 {
     let fields = field_places(alloc, object.fields.as_slice())?;
-    read_rule_by(alloc, &fields, object, text)
+    let rule = read_rule_by(alloc, &fields, object, text)?;
+    Ok(rule.into_value())
 }

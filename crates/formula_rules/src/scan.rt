@@ -2,7 +2,7 @@
 
 ghost use Rattle.std.specs.Prelude.{◌≡◌, ◌≤◌, ◌<◌, take, drop, length, true, Some, IsTrue, IfOk, IfSome};
 ghost use Rattle.std.specs.Str.{IsAscii};
-ghost use Rattle.apex_schema.specs.Names as names;
+ghost use Rattle.schema_names.specs.Names as names;
 ghost use Rattle.formula_rules.specs.declared.token.Token.TheVariants.{Op};
 ghost use Rattle.formula_rules.specs.Tokens as tokens;
 ghost use Rattle.formula_rules.specs.Readings.{test_of, Tells, Cuts, Shows, IsWithin, NextIs, AreTokens};
@@ -18,7 +18,7 @@ use std::alloc::Global;
 use std::str;
 
 /// A kind of bytes.
-#[derive(Clone, Copy, Debug, PartialEq, Eq, Drop)]
+#[derive(Clone, Copy, PartialEq, Eq, Drop)]
 pub enum Run {
     Blanks,
     Words,
@@ -27,7 +27,7 @@ pub enum Run {
 }
 
 /// A token at the front of a text, and how many bytes it has.
-#[derive(Debug, Drop)]
+#[derive(Drop)]
 pub struct Cut {
     pub token: Token,
     pub size: usize,

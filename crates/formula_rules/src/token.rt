@@ -5,7 +5,7 @@ use apex_schema::RuleOp;
 use apex_text::Name;
 
 /// A token of a formula.
-#[derive(Debug, Drop)]
+#[derive(Drop)]
 pub enum Token {
     /// A name, or a word of formulas, without its case.
     Word(Name),

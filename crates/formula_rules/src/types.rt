@@ -2,14 +2,14 @@
 
 ghost use Rattle.std.specs.Prelude.{◌≡◌};
 ghost use Rattle.std.specs.List.{list_all};
-ghost use Rattle.apex_schema.specs.Formulas as types;
+ghost use Rattle.schema_plans.specs.Formulas as types;
 ghost use Rattle.formula_rules.specs.Sorts.{shows, all_shows};
 
 use apex_list::Items;
 use apex_schema::{Field, FieldKind, Rule, RuleOp, RuleTerm};
 
 /// The type of a term.
-#[derive(Clone, Copy, Debug, PartialEq, Eq, Drop)]
+#[derive(Clone, Copy, PartialEq, Eq, Drop)]
 pub enum Sort {
     Number,
     Text,

@@ -4,15 +4,15 @@ ghost use Rattle.std.specs.Prelude.{◌≡◌, ◌*◌, pos, ◌||◌, bytes_eq,
 ghost use Rattle.std.specs.Option.{option_copied};
 ghost use Rattle.std.specs.Str.{chars};
 ghost use Rattle.apex_num.specs.declared.cell.Cell.TheVariants.{Text as TextCell};
-ghost use Rattle.apex_schema.specs.Conds.{or_null};
-ghost use Rattle.apex_schema.specs.Rules.{equals, order, reads_as, text_length};
+ghost use Rattle.row_meaning.specs.Conds.{or_null};
+ghost use Rattle.row_meaning.specs.Rules.{equals, order, reads_as, text_length};
 ghost use Rattle.formula_rules.specs.Values.{shows};
 
 use apex_num::{Cell, Id, id_18};
 use std::cmp::Ordering;
 
 /// A cell, seen where it lies, or a value that a formula makes.
-#[derive(Debug, Drop)]
+#[derive(Drop)]
 pub enum Value<'a> {
     Null,
     Truth(bool),

@@ -7,7 +7,7 @@ ghost use Rattle.formula_rules.specs.Readings.{is_of_formulas};
 use apex_text::Name;
 
 /// A function of formulas.
-#[derive(Clone, Copy, Debug, PartialEq, Eq, Drop)]
+#[derive(Clone, Copy, PartialEq, Eq, Drop)]
 pub enum Function {
     And,
     Or,

@@ -1,5 +1,7 @@
-//! The locals that are in scope at a place of a body, with the slots that they have.
+//! The locals that are in scope at a place of a body, with the slots that they have, found and declared by their words.
 #![tactic(auto)]
+
+mod local;
 
 ghost use Rattle.std.specs.Prelude.{◌≡◌, ◌∷◌, ◌++◌, [], None, take, length, slice_get, option_map, is_some, OnOk, OnErr};
 ghost use Rattle.std.specs.Option.{option_copied};
@@ -8,6 +10,7 @@ ghost use Rattle.local_scopes.specs.Scopes.{slot_of, kind_in};
 use apex_num::NoMemory;
 use apex_text::Name;
 use indexmap::IndexMap;
+pub use local::{declare, fresh};
 use static_types::ValueType;
 use std::alloc::{AllocError, Global};
 use std::marker::Model;

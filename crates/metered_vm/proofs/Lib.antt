@@ -1,2 +1,8 @@
-pub mod Found
-pub mod Goes
+pub mod Running
+pub mod Keeps
+mod Joined
+mod Lists
+mod Saves
+mod Once
+mod Within
+mod Sized

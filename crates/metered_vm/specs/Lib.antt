@@ -1,2 +1,6 @@
-pub mod Moves
+pub mod Texts
+pub mod Sizes
+pub mod Records
+pub mod Steps
+pub mod Keeps
 pub mod Runs

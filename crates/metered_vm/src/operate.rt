@@ -1,77 +1,114 @@
-// What operators give, and the text of values.
+// What operators give.
 
-ghost use Rattle.std.specs.Prelude.{◌≡◌, ◌<◌, ◌≤◌, length};
-ghost use Rattle.apex_meaning.specs.Values.{binary, negative, text_of, class_of, message_of};
-ghost use Rattle.metered_vm.specs.Moves.{IsCalc};
+ghost use Rattle.std.specs.Prelude.{◌≡◌, true, false, MatchOption};
+ghost use Rattle.apex_meaning.specs.Values as spec;
+ghost use Rattle.metered_vm.specs.Steps.{calc_of, other_with};
 
-use apex_meaning::{Exception, Value};
-use apex_syntax::Op;
-use itoa::Buffer;
+use apex_num::Cell;
+use platform_errors::Thrown;
+use txn_heap::Value;
+use typed_program::Arithmetic;
 
-/// An operator at two values, or what is thrown in its place.
-pub fn calculate(op: Op, x: Value, y: Value) -> Result<Value, Exception>
-    ensures { IsCalc result (binary op x y) }
+/// A value, or what is thrown in its place, or that the form isn't built.
+#[derive(Drop)]
+pub enum Calculated {
+    Val(Value),
+    Fails(Thrown),
+    Other,
+}
+
+// The Integer that a whole number is; none where it needs more than 32 bits.
+fn integer_of(n: i64) -> Option<i32>
+    ensures { MatchOption result (spec.is_integer n ≡ false) (λ x. (spec.is_integer n ≡ true) × (x ≡ n)) }
 {
-    match (x, y) {
-        (Value::Whole(x), Value::Whole(y)) => on_wholes(op, x, y),
-        _ => Err(Exception::NullOperand),
+    if n >= -2_147_483_648 && n <= 2_147_483_647 {
+        Some(n as i32)
+    } else {
+        None
     }
 }
 
-fn on_wholes(op: Op, x: i32, y: i32) -> Result<Value, Exception>
-    ensures { IsCalc result (binary op (Value.Whole x) (Value.Whole y)) }
+fn whole(n: i32) -> Calculated
+    ensures { calc_of result ≡ spec.whole n }
+{
+    Calculated::Val(Value::Plain(Cell::Whole(n as i64)))
+}
+
+fn on_integers(op: Arithmetic, x: i32, y: i32) -> Calculated
+    ensures { calc_of result ≡ spec.on_integers op x y }
 {
     match op {
-        Op::Plus => Ok(Value::Whole(x.wrapping_add(y))),
-        Op::Minus => Ok(Value::Whole(x.wrapping_sub(y))),
-        Op::Times => Ok(Value::Whole(x.wrapping_mul(y))),
-        Op::Over => {
+        Arithmetic::Plus => whole(x.wrapping_add(y)),
+        Arithmetic::Minus => whole(x.wrapping_sub(y)),
+        Arithmetic::Times => whole(x.wrapping_mul(y)),
+        Arithmetic::Over => {
             if y == 0 {
-                Err(Exception::DivideByZero)
+                Calculated::Fails(Thrown::DivideByZero)
             } else {
-                Ok(Value::Whole(x.wrapping_div(y)))
+                whole(x.wrapping_div(y))
             }
         }
     }
 }
 
-/// The negative of a value, or what is thrown in its place.
-pub fn negated(v: Value) -> Result<Value, Exception>
-    ensures { IsCalc result (negative v) }
+// An operator at two whole numbers.
+fn on_wholes(op: Arithmetic, x: i64, y: i64) -> Calculated
+    ensures { calc_of result ≡ spec.integers op (Value.Plain (Cell.Whole x)) (Value.Plain (Cell.Whole y)) }
+{
+    match (integer_of(x), integer_of(y)) {
+        (Some(x), Some(y)) => on_integers(op, x, y),
+        _ => Calculated::Other,
+    }
+}
+
+// An operator at a whole number and a value.
+fn with_whole(op: Arithmetic, x: i64, w: &Value) -> Calculated
+    ensures { calc_of result ≡ spec.integers op (Value.Plain (Cell.Whole x)) w.now }
+{
+    match w {
+        Value::Plain(Cell::Whole(y)) => on_wholes(op, x, *y),
+        Value::Plain(Cell::Null) => Calculated::Fails(Thrown::NullObject),
+        _ => Calculated::Other,
+    }
+}
+
+// An operator at a value that is neither a whole number nor null, and another one.
+fn with_other(w: &Value) -> Calculated
+    ensures { calc_of result ≡ other_with w.now }
+{
+    match w {
+        Value::Plain(Cell::Null) => Calculated::Fails(Thrown::NullObject),
+        _ => Calculated::Other,
+    }
+}
+
+fn integers(op: Arithmetic, v: &Value, w: &Value) -> Calculated
+    ensures { calc_of result ≡ spec.integers op v.now w.now }
 {
     match v {
-        Value::Null => Err(Exception::NullOperand),
-        Value::Whole(x) => Ok(Value::Whole(x.wrapping_neg())),
+        Value::Plain(Cell::Whole(x)) => with_whole(op, *x, w),
+        Value::Plain(Cell::Null) => Calculated::Fails(Thrown::NullObject),
+        _ => with_other(w),
     }
 }
 
-/// The text of a value, which may lie in the buffer.
-pub fn shown(v: Value, buffer: &mut Buffer) -> &str
-    ensures text { result.now ≡ text_of v }
-    ensures short { length result.now ≤ 40 }
+/// What an operator gives at two values, which are used up.
+pub fn integers_of(op: Arithmetic, v: Value, w: Value) -> Calculated
+    ensures { calc_of result ≡ spec.integers op v w }
+{
+    integers(op, &v, &w)
+}
+
+/// The negative of a value.
+pub fn negative(v: &Value) -> Calculated
+    ensures { calc_of result ≡ spec.negative v.now }
 {
     match v {
-        Value::Null => "null",
-        Value::Whole(x) => buffer.format(x),
-    }
-}
-
-/// The class of an exception.
-pub fn class_name(x: Exception) -> &'static str
-    ensures { result.now ≡ class_of x }
-{
-    match x {
-        Exception::DivideByZero => "MathException",
-        Exception::NullOperand => "NullPointerException",
-    }
-}
-
-/// The message of an exception.
-pub fn message(x: Exception) -> &'static str
-    ensures { result.now ≡ message_of x }
-{
-    match x {
-        Exception::DivideByZero => "Divide by 0",
-        Exception::NullOperand => "Attempt to de-reference a null object",
+        Value::Plain(Cell::Whole(x)) => match integer_of(*x) {
+            Some(x) => whole(x.wrapping_neg()),
+            None => Calculated::Other,
+        },
+        Value::Plain(Cell::Null) => Calculated::Fails(Thrown::NullObject),
+        _ => Calculated::Other,
     }
 }

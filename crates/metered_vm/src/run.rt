@@ -1,91 +1,168 @@
-// A whole run.
+// A request from its start, or from an answer, to its next question or its end.
 
-ghost use Rattle.std.specs.Prelude.{◌≡◌, replicate, IfOk};
-ghost use Rattle.stack_code.specs.Machine.{start, ending};
+ghost use Rattle.std.specs.Prelude.{◌≡◌, List, [], IfOk};
+ghost use Rattle.apex_rows.specs.declared.query.Answer.{Answer as Told};
+ghost use Rattle.apex_requests.specs.declared.request.Ticket.{Ticket as Place};
+ghost use Rattle.apex_schema.specs.declared.schema.Schema.{Schema as Tenant};
+ghost use Rattle.stack_code.specs.declared.code.Image.{Image as Code};
+ghost use Rattle.save_procedure.specs.Does.{IsSound, HasIds};
 ghost use Rattle.stack_code.specs.Checked.{IsChecked};
-ghost use Rattle.metered_vm.specs.Moves.{outcome_of};
-ghost use Rattle.metered_vm.specs.Runs.{end_in, Replies};
+ghost use Rattle.stack_code.specs.Machine as spec;
+ghost use Rattle.metered_vm.specs.Keeps.{Stands, KeepsOn};
+ghost use Rattle.metered_vm.specs.Runs.{IsStepTo, Ran, Pauses, Waits, told};
 
-use crate::operate::{class_name, message};
-use crate::step::{Ending, Moved, step_once};
+use crate::moved::Moved;
+use crate::saving::{ask, count, save};
+use crate::step::{act, raise};
 use apex_list::{Items, Stack};
-use apex_meaning::{Counts, Outcome, Reply, Value};
-use apex_num::{LimitKind, Text};
+use apex_num::NoMemory;
+use apex_requests::{Reply, Ticket};
+use apex_rows::{Answer, Question, Writes};
+use apex_schema::Schema;
 use limit_meter::Meter;
+use save_meaning::TxnState;
+use save_procedure::given as save_given;
 use stack_code::{Config, Frame, Image, Mode, World};
-use std::alloc::{AllocError, Global};
+use std::alloc::Global;
+use std::mem::replace;
+use txn_overlay::Journal;
 
-/// Runs a checked image to its end. The reply is the machine's, with the number of its steps.
-pub fn run_image(alloc: Global, image: &Image) -> Result<Reply, AllocError>
-    requires { IsChecked image.now }
-    ensures { IfOk result (λ reply. Replies image.now reply) }
-{
-    let mut c = first_config(alloc, image)?;
-    let mut ops = 0u64;
-    'steps: loop {
-        ops = ops.saturating_add(1);
-        match step_once(alloc, image, &mut c)? {
-            Moved::Went => {}
-            Moved::Over(how) => return reply_of(alloc, how, c.world, ops),
-        }
-    }
+/// A request on its way: the machine that runs it, and how many steps it made, or 2^64 - 1 where there were more.
+#[derive(Drop)]
+pub struct Vm {
+    config: Config,
+    ops: u64,
+}
+
+/// Where a request pauses.
+#[derive(Drop)]
+pub enum Pause {
+    /// It asks, and goes on with the answer.
+    Need(Question),
+    /// It is over, with its reply and what it writes.
+    End(Reply, Writes),
 }
 
 // The state in which a request begins.
-fn first_config(alloc: Global, image: &Image) -> Result<Config, AllocError>
-    ensures { IfOk result (λ c. c ≡ start image.now) }
+fn first_config(alloc: Global) -> Config
+    ensures { result ≡ spec.start }
 {
-    Ok(Config {
+    Config {
         top: Frame {
             pc: 0,
-            locals: nulls(alloc, image.locals)?,
+            locals: Items::new(alloc),
             stack: Stack::new(alloc),
         },
         mode: Mode::Running,
         world: World {
-            meter: Meter::new(),
+            txn: TxnState {
+                overlay: Journal::new(alloc),
+                minted: 0,
+                meter: Meter::new(),
+            },
+            heap: Items::new(alloc),
             debug: Items::new(alloc),
         },
-    })
+    }
 }
 
-fn nulls(alloc: Global, n: usize) -> Result<Items<Value>, AllocError>
-    ensures { IfOk result (λ it. it ≡ replicate n Value.Null) }
+/// A request that begins. It takes no memory.
+pub fn start(alloc: Global) -> Vm
+    ensures config { result.config ≡ spec.start }
+    ensures ops { result.ops ≡ 0 }
+    ensures ran { (tenant : Tenant) (ticket : Place) (image : Code) → Ran tenant ticket image [] result.ops result.config }
+    ensures stands { (image : Code) → IsChecked image → Stands image result.config }
 {
-    let values = vec![in alloc; Value::Null; n]?;
-    Ok(Items::of(values))
+    Vm {
+        config: first_config(alloc),
+        ops: 0,
+    }
 }
 
-// The reply to a request that is over.
-fn reply_of(alloc: Global, how: Ending, world: World, ops: u64) -> Result<Reply, AllocError>
-    ensures { IfOk result (λ reply. (end_in reply ≡ ending (outcome_of how) world) × (reply.ops ≡ ops)) }
+// What the machine does with the answer to what it asked.
+fn given_in(mode: Mode, answer: Answer) -> Mode
+    ensures { result ≡ spec.given_in mode answer }
 {
-    let counts = Counts {
-        queries: world.meter.count(LimitKind::Queries),
-        rows: world.meter.count(LimitKind::Rows),
-        dml: world.meter.count(LimitKind::Dml),
-        saved: world.meter.count(LimitKind::Saved),
-        steps: world.meter.count(LimitKind::Steps),
-    };
-    let outcome = outcome(alloc, how)?;
-    Ok(Reply {
-        outcome,
-        debug: world.debug,
-        counts,
-        ops,
-    })
-}
-
-fn outcome(alloc: Global, how: Ending) -> Result<Outcome, AllocError>
-    ensures { IfOk result (λ o. o ≡ outcome_of how) }
-{
-    match how {
-        Ending::Done => Ok(Outcome::Ok),
-        Ending::Threw(x) => {
-            let class = Text::from_str(alloc, class_name(x))?;
-            let text = Text::from_str(alloc, message(x))?;
-            Ok(Outcome::Thrown(class, text))
+    match mode {
+        Mode::Asking => Mode::Counting(answer),
+        Mode::Saving(places, run) => {
+            let mut run = run;
+            save_given(&mut run, answer);
+            Mode::Saving(places, run)
         }
-        Ending::Halted(limit) => Ok(Outcome::Limit(limit.kind, limit.number)),
+        mode => mode,
+    }
+}
+
+// The machine has the answer, where there is one.
+fn answered(c: &mut Config, answer: Option<Answer>)
+    ensures { c.new ≡ told answer c.old }
+{
+    if let Some(answer) = answer {
+        let mode = replace(&mut c.mode, Mode::Running);
+        c.mode = given_in(mode, answer);
+    }
+}
+
+// A step, or the way of a save to its next question or its end.
+fn step_once(
+    alloc: Global,
+    image: &Image,
+    schema: &Schema,
+    ticket: Ticket,
+    c: &mut Config,
+) -> Result<Moved, NoMemory>
+    requires sound { IsSound schema.now }
+    requires ids { HasIds ticket }
+    requires stands { Stands image.now c.old }
+    ensures step { IfOk result (λ m. IsStepTo schema.now ticket image.now c.old m c.new) }
+    ensures keeps { IfOk result (λ m. KeepsOn image.now c.old m c.new) }
+{
+    match replace(&mut c.mode, Mode::Running) {
+        Mode::Running => {
+            let moved = act(alloc, image, schema, ticket, c)?;
+            Ok(moved)
+        }
+        Mode::Raising(thrown) => raise(alloc, thrown, c),
+        Mode::Asking => ask(alloc, image, c),
+        Mode::Counting(answer) => {
+            let moved = count(alloc, image, answer, c)?;
+            Ok(moved)
+        }
+        Mode::Saving(places, run) => {
+            let moved = save(alloc, schema, ticket, places, run, c)?;
+            Ok(moved)
+        }
+    }
+}
+
+/// Goes on with a request to its next question or its end: with none where it begins, with the answer where it asked. An image
+/// is checked, the answers are a store's. Want of memory spends the request.
+pub fn resume(
+    alloc: Global,
+    image: &Image,
+    schema: &Schema,
+    ticket: Ticket,
+    vm: &mut Vm,
+    answer: Option<Answer>,
+) -> Result<Pause, NoMemory>
+    requires sound { IsSound schema.now }
+    requires ids { HasIds ticket }
+    requires stands { Stands image.now vm.old.config }
+    ensures pauses { (tape : List Told) → Ran schema.now ticket image.now tape vm.old.ops (told answer vm.old.config) → IfOk result (λ pause. Pauses schema.now ticket image.now tape pause vm.new) }
+    ensures waits { IfOk result (λ pause. Waits image.now pause vm.new) }
+{
+    answered(&mut vm.config, answer);
+    'steps: loop {
+        vm.ops = vm.ops.saturating_add(1);
+        match step_once(alloc, image, schema, ticket, &mut vm.config)? {
+            Moved::Went => {}
+            Moved::Asked(question) => return Ok(Pause::Need(question)),
+            Moved::Over(reply, writes) => {
+                let mut reply = reply;
+                reply.ops = vm.ops;
+                return Ok(Pause::End(reply, writes));
+            }
+        }
     }
 }

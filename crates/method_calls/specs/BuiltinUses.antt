@@ -1,12 +1,14 @@
 -- Built-in methods as code may use them (docs/language.md, "Calls").
-use Rattle.std.specs.Prelude.{ℕ, Bool, true, false, cond, List, [], ◌∷◌, codes, is_some, Option, None, Some}
+use Rattle.std.specs.Prelude.{◌≡◌, ℕ, ◌&&◌, ◌||◌, not, Bool, cond, List, [], ◌∷◌, codes, is_some, Option, None, Some}
 use Rattle.std.specs.List.{list_any}
 use Rattle.apex_text.specs.Fold.{folded}
-use Rattle.builtin_signatures.specs.Statics.{is_static}
+use Rattle.builtin_signatures.specs.Statics.{is_static, wants_primitive_items}
 use Rattle.builtin_table.specs.declared.method.Builtin.{Builtin}
-use Rattle.builtin_table.specs.Names.{signature_of}
+use Rattle.builtin_names.specs.Names.{signature_of}
 use Rattle.method_calls.specs.declared.builtin.BuiltinUse.{BuiltinUse}
 use Rattle.method_calls.specs.declared.builtin.BuiltinUse.TheVariants.{Unknown, WrongCount, Found}
+use Rattle.method_calls.specs.declared.builtin.Target.{Target}
+use Rattle.method_calls.specs.declared.builtin.Target.TheVariants.{OnType, OnValue}
 use Rattle.static_types.specs.declared.kind.PlatformType.{PlatformType}
 use Rattle.static_types.specs.declared.kind.PlatformType.TheVariants as K
 use Rattle.static_types.specs.declared.kind.Primitive.{Primitive}
@@ -62,21 +64,21 @@ space_word _ = []
 
 -- ---- methods
 
-abbrev pub same_way : Bool → Bool → Bool
-same_way true on_value = on_value
-same_way false true = false
-same_way false false = true
+-- on a type the methods of the type itself, on a value the others; on a list whose items are no primitives, none of those
+-- that search and sort
+abbrev pub is_for : Target → Builtin → Bool
+is_for OnType b = is_static b
+is_for (OnValue sorts) b = not (is_static b) && (sorts || not (wants_primitive_items b))
 
-abbrev pub called_so : Bool → Option Builtin → Option Builtin
-called_so on_value (Some b) = cond (same_way (is_static b) on_value) None (Some b)
-called_so on_value None = None
+abbrev pub called_so : Target → Option Builtin → Option Builtin
+called_so on (Some b) = cond (is_for on b) (Some b) None
+called_so on None = None
 
--- a method that is called so: on a value, or on a type
-abbrev pub called : List ℕ → List ℕ → ℕ → Bool → Option Builtin
-called kind method count on_value = called_so on_value (signature_of kind method count)
+abbrev pub called : List ℕ → List ℕ → ℕ → Target → Option Builtin
+called kind method count on = called_so on (signature_of kind method count)
 
-abbrev pub called_with_any : List ℕ → List ℕ → List ℕ → Bool → Bool
-called_with_any kind method counts on_value = list_any (λ count. is_some (called kind method count on_value)) counts
+abbrev pub called_with_any : List ℕ → List ℕ → List ℕ → Target → Bool
+called_with_any kind method counts on = list_any (λ count. is_some (called kind method count on)) counts
 
 -- no method takes more than six arguments
 abbrev pub counts : List ℕ
@@ -86,8 +88,13 @@ abbrev pub use_or : Bool → Option Builtin → BuiltinUse
 use_or others (Some b) = Found b
 use_or others None = cond others WrongCount Unknown
 
-abbrev pub use_of : List ℕ → List ℕ → ℕ → Bool → BuiltinUse
-use_of kind method count on_value = use_or (called_with_any kind method counts on_value) (called kind method count on_value)
+abbrev pub use_of : List ℕ → List ℕ → ℕ → Target → BuiltinUse
+use_of kind method count on = use_or (called_with_any kind method counts on) (called kind method count on)
 
-abbrev pub builtin_use : List ℕ → List ℕ → ℕ → Bool → BuiltinUse
-builtin_use kind method count on_value = use_of (folded kind) method count on_value
+abbrev pub builtin_use : List ℕ → List ℕ → ℕ → Target → BuiltinUse
+builtin_use kind method count on = use_of (folded kind) method count on
+
+-- ---- what is unknown for one number of arguments is so for every number
+
+abbrev pub UnknownForAll : Type 0
+UnknownForAll = (kind method : List ℕ) (on : Target) (n k : ℕ) → builtin_use kind method n on ≡ Unknown → builtin_use kind method k on ≡ Unknown

@@ -6,14 +6,15 @@ ghost use Rattle.method_calls.specs.BuiltinUses as spec;
 
 use apex_num::NoMemory;
 use apex_text::Name;
-use builtin_signatures::is_static;
-use builtin_table::{Builtin, signature};
+use builtin_names::signature;
+use builtin_signatures::{is_static, wants_primitive_items};
+use builtin_table::Builtin;
 use static_types::{PlatformType, Primitive, TypeName, ValueType};
 use std::alloc::Global;
 use typed_values::Space;
 
 /// How a name and a number of arguments may be used as those of a built-in method.
-#[derive(Clone, Copy, Debug, PartialEq, Eq, Drop)]
+#[derive(Clone, Copy, Drop)]
 pub enum BuiltinUse {
     Unknown,
     /// There is a method of the name, and none with so many parameters.
@@ -21,43 +22,62 @@ pub enum BuiltinUse {
     Found(Builtin),
 }
 
+/// What a built-in method is called on.
+#[derive(Clone, Copy, Drop)]
+pub enum Target {
+    OnType,
+    /// A value, and whether it is a list of primitives, which is searched and sorted.
+    OnValue(bool),
+}
+
 // No method takes more arguments.
 const COUNTS: [usize; 7] = [0, 1, 2, 3, 4, 5, 6];
 
-// The method, if it is called so: on a value, or on a type.
-fn called(kind: &Name, method: &Name, count: usize, on_value: bool) -> Option<Builtin>
-    ensures { result ≡ spec.called kind.now method.now count on_value }
+fn is_for(on: Target, builtin: Builtin) -> bool
+    ensures { result ≡ spec.is_for on builtin }
+{
+    match on {
+        Target::OnType => is_static(builtin),
+        Target::OnValue(sorts) => {
+            !is_static(builtin) && (sorts || !wants_primitive_items(builtin))
+        }
+    }
+}
+
+// The method, if it is called so.
+fn called(kind: &Name, method: &Name, count: usize, on: Target) -> Option<Builtin>
+    ensures { result ≡ spec.called kind.now method.now count on }
 {
     match signature(kind, method, count) {
         Some(builtin) => {
-            if is_static(builtin) == on_value {
-                None
-            } else {
+            if is_for(on, builtin) {
                 Some(builtin)
+            } else {
+                None
             }
         }
         None => None,
     }
 }
 
-fn called_with_any(kind: &Name, method: &Name, counts: &[usize], on_value: bool) -> bool
-    ensures { result ≡ spec.called_with_any kind.now method.now counts.now on_value }
+fn called_with_any(kind: &Name, method: &Name, counts: &[usize], on: Target) -> bool
+    ensures { result ≡ spec.called_with_any kind.now method.now counts.now on }
 {
     for count in counts {
-        if called(kind, method, *count, on_value).is_some() {
+        if called(kind, method, *count, on).is_some() {
             return true;
         }
     }
     false
 }
 
-fn use_of(kind: &Name, method: &Name, count: usize, on_value: bool) -> BuiltinUse
-    ensures { result ≡ spec.use_of kind.now method.now count on_value }
+fn use_of(kind: &Name, method: &Name, count: usize, on: Target) -> BuiltinUse
+    ensures { result ≡ spec.use_of kind.now method.now count on }
 {
-    if let Some(builtin) = called(kind, method, count, on_value) {
+    if let Some(builtin) = called(kind, method, count, on) {
         return BuiltinUse::Found(builtin);
     }
-    if called_with_any(kind, method, &COUNTS, on_value) {
+    if called_with_any(kind, method, &COUNTS, on) {
         BuiltinUse::WrongCount
     } else {
         BuiltinUse::Unknown
@@ -71,13 +91,18 @@ pub fn builtin_use(
     kind: &str,
     method: &Name,
     count: usize,
-    on_value: bool,
+    on: Target,
 ) -> Result<BuiltinUse, NoMemory>
-    ensures { IfOk result (λ u. u ≡ spec.builtin_use kind.now method.now count on_value) }
+    ensures { IfOk result (λ u. u ≡ spec.builtin_use kind.now method.now count on) }
 {
     let kind = Name::of(alloc, kind.as_bytes())?;
-    Ok(use_of(&kind, method, count, on_value))
+    Ok(use_of(&kind, method, count, on))
 }
+
+/// What is unknown for one number of arguments is so for every number.
+pub fn laws_of_numbers()
+    ensures { spec.UnknownForAll }
+{}
 
 fn primitive_word(p: Primitive) -> &'static str
     ensures { result.now ≡ spec.primitive_word p }

@@ -1,22 +1,21 @@
 // What a call means.
 
-ghost use Rattle.std.specs.Prelude.{◌≡◌};
-ghost use Rattle.class_members.specs.Tables.{all_in};
+ghost use Rattle.std.specs.Prelude.{◌≡◌, IfOk};
 ghost use Rattle.name_meanings.specs.Settings.{around};
 ghost use Rattle.static_types.specs.declared.kind.ValueType.TheViews.{out-ValueType};
 ghost use Rattle.type_names.specs.Walks.{Comes, Tells};
 ghost use Rattle.method_calls.specs.Callees as spec;
 ghost use Rattle.method_calls.specs.MethodNamings.{namings};
 
-use crate::builtin::{BuiltinUse, builtin_use, space_word, type_word};
-use crate::found::{MethodUse, has_body, method_use};
-use crate::named::MethodNames;
-use apex_schema::FaultWord;
+use crate::builtin::{BuiltinUse, Target, builtin_use, space_word, type_word};
+use crate::found::{MethodUse, method_use};
+use crate::named::{MethodNames, Way};
+use apex_num::NoMemory;
 use apex_syntax::Word;
-use builtin_signatures::wants_primitive_items;
+use apex_text::Name;
 use builtin_table::Builtin;
-use class_heads::Parent;
-use class_members::{Member, MemberTables};
+use class_tables::{Member, Parent};
+use fault_words::FaultWord;
 use name_meanings::Setting;
 use static_types::ValueType;
 use std::alloc::Global;
@@ -24,7 +23,7 @@ use type_names::{TreeFault, WalkFault};
 use typed_values::{Kind, Role, Space, Typed};
 
 /// What a call means, whatever its arguments are.
-#[derive(Clone, Copy, Debug, PartialEq, Eq, Drop)]
+#[derive(Clone, Copy, Drop)]
 pub enum Callee {
     /// The static method of a class.
     Static(Member),
@@ -63,93 +62,47 @@ fn of_type(found: BuiltinUse, at: usize) -> Result<Callee, TreeFault>
     }
 }
 
-// A method of an instance.
 fn on_instance(found: MethodUse, at: usize) -> Result<Callee, TreeFault>
     ensures { Tells (spec.on_instance found at) result }
 {
     match found {
-        MethodUse::Instance(member, nearest) => Ok(Callee::Method(member, nearest)),
+        MethodUse::Found(member, nearest) => Ok(Callee::Method(member, nearest)),
+        MethodUse::Builtin(builtin) => Ok(Callee::Builtin(builtin)),
         MethodUse::WrongCount => Ok(Callee::WrongCount),
-        MethodUse::Hidden(false) => Err(TreeFault::new(FaultWord::NotVisible, at)),
-        MethodUse::Hidden(true) | MethodUse::Unknown | MethodUse::Static(_) => {
-            Err(TreeFault::new(FaultWord::UnknownName, at))
-        }
+        MethodUse::Hidden => Err(TreeFault::new(FaultWord::NotVisible, at)),
+        MethodUse::Unknown => Err(TreeFault::new(FaultWord::UnknownName, at)),
     }
 }
 
-// A method of a class.
 fn on_class(found: MethodUse, at: usize) -> Result<Callee, TreeFault>
     ensures { Tells (spec.on_class found at) result }
 {
     match found {
-        MethodUse::Static(member) => Ok(Callee::Static(member)),
+        MethodUse::Found(member, _) => Ok(Callee::Static(member)),
+        MethodUse::Builtin(builtin) => Ok(Callee::Builtin(builtin)),
         MethodUse::WrongCount => Ok(Callee::WrongCount),
-        MethodUse::Hidden(true) => Err(TreeFault::new(FaultWord::NotVisible, at)),
-        MethodUse::Hidden(false) | MethodUse::Unknown | MethodUse::Instance(..) => {
-            Err(TreeFault::new(FaultWord::UnknownName, at))
-        }
+        MethodUse::Hidden => Err(TreeFault::new(FaultWord::NotVisible, at)),
+        MethodUse::Unknown => Err(TreeFault::new(FaultWord::UnknownName, at)),
     }
 }
 
-// A method of the class whose code it is, of `this` or static.
-fn in_own_class(is_static: bool, found: MethodUse, at: usize) -> Result<Callee, TreeFault>
-    ensures { Tells (spec.in_own_class is_static found at) result }
+fn or_wrong(found: MethodUse, at: usize) -> Result<Callee, TreeFault>
+    ensures { Tells (spec.or_wrong found at) result }
 {
     match found {
-        MethodUse::Static(_) | MethodUse::Hidden(true) => on_class(found, at),
-        found => {
-            if is_static {
-                on_class(found, at)
-            } else {
-                on_instance(found, at)
-            }
-        }
+        MethodUse::Unknown => Ok(Callee::WrongCount),
+        found => on_class(found, at),
     }
 }
 
-// Whether a class has no such method of its own, so that one of all exceptions is meant.
-fn is_absent(found: MethodUse) -> bool
-    ensures { result ≡ spec.is_absent found }
+// A method of `this`, and then a static one.
+fn or_static(own: MethodUse, other: MethodUse, at: usize) -> Result<Callee, TreeFault>
+    ensures { Tells (spec.or_static own other at) result }
 {
-    match found {
-        MethodUse::Unknown | MethodUse::WrongCount => true,
-        _ => false,
-    }
-}
-
-fn exception_method(
-    alloc: Global,
-    setting: &Setting,
-    class: usize,
-    found: MethodUse,
-    word: &Word,
-    count: usize,
-) -> Result<Option<Builtin>, WalkFault>
-    ensures { Comes (spec.exception_method (around setting.now) class found word.now count) result }
-{
-    if !is_absent(found) || !setting.lines.is_exception(class) {
-        return Ok(None);
-    }
-    match builtin_use(alloc, "exception", &word.name, count, true)? {
-        BuiltinUse::Found(builtin) => Ok(Some(builtin)),
-        BuiltinUse::Unknown | BuiltinUse::WrongCount => Ok(None),
-    }
-}
-
-fn class_method(
-    alloc: Global,
-    setting: &Setting,
-    names: &MethodNames,
-    class: usize,
-    word: &Word,
-    count: usize,
-) -> Result<Callee, WalkFault>
-    ensures { Comes (spec.class_method (around setting.now) (namings names.now) class word.now count) result }
-{
-    let found = method_use(setting, names, class, &word.name, count)?;
-    match exception_method(alloc, setting, class, found, word, count)? {
-        Some(builtin) => Ok(Callee::Builtin(builtin)),
-        None => Ok(on_instance(found, word.span.from)?),
+    match own {
+        MethodUse::Unknown => on_class(other, at),
+        MethodUse::WrongCount => or_wrong(other, at),
+        own => on_instance(own, at),
     }
 }
 
@@ -165,20 +118,17 @@ fn is_plain_list(kind: &ValueType) -> bool
     }
 }
 
-// Only a list of primitives is searched and sorted.
-fn for_items(kind: &ValueType, found: BuiltinUse) -> BuiltinUse
-    ensures { result ≡ spec.for_items (out-ValueType kind.now) found }
+fn other_method(
+    alloc: Global,
+    kind: &ValueType,
+    word: &Word,
+    count: usize,
+) -> Result<Callee, WalkFault>
+    ensures { Comes (spec.other_method (out-ValueType kind.now) word.now count) result }
 {
-    match found {
-        BuiltinUse::Found(builtin) => {
-            if wants_primitive_items(builtin) && !is_plain_list(kind) {
-                BuiltinUse::Unknown
-            } else {
-                found
-            }
-        }
-        found => found,
-    }
+    let on = Target::OnValue(is_plain_list(kind));
+    let found = builtin_use(alloc, type_word(kind), &word.name, count, on)?;
+    Ok(built_in(found, word.span.from)?)
 }
 
 fn type_method(
@@ -192,11 +142,12 @@ fn type_method(
     ensures { Comes (spec.type_method (around setting.now) (namings names.now) (out-ValueType kind.now) word.now count) result }
 {
     match kind {
-        ValueType::Class(class) => class_method(alloc, setting, names, *class, word, count),
-        kind => {
-            let found = builtin_use(alloc, type_word(kind), &word.name, count, true)?;
-            Ok(built_in(for_items(kind, found), word.span.from)?)
+        ValueType::Class(class) => {
+            let name = &word.name;
+            let found = method_use(alloc, setting, names, Way::Instance, *class, name, count)?;
+            Ok(on_instance(found, word.span.from)?)
         }
+        kind => other_method(alloc, kind, word, count),
     }
 }
 
@@ -255,48 +206,16 @@ fn space_method(
 {
     match space {
         Space::Class(class) => {
-            let found = method_use(setting, names, class, &word.name, count)?;
+            let name = &word.name;
+            let found = method_use(alloc, setting, names, Way::Static, class, name, count)?;
             Ok(on_class(found, word.span.from)?)
         }
         Space::System => Ok(system_method(word, count)?),
         Space::Trigger => Ok(trigger_method(setting.trigger, at, word)?),
         space => {
-            let found = builtin_use(alloc, space_word(space), &word.name, count, false)?;
+            let found = builtin_use(alloc, space_word(space), &word.name, count, Target::OnType)?;
             Ok(of_type(found, word.span.from)?)
         }
-    }
-}
-
-// Through `super` the method itself is called, which has to have a body.
-fn through_super(members: &MemberTables, found: MethodUse, at: usize) -> Result<Callee, TreeFault>
-    ensures { Tells (spec.through_super (all_in members.now) found at) result }
-{
-    match found {
-        MethodUse::Instance(member, _) => {
-            if has_body(members, member) {
-                Ok(Callee::Method(member, false))
-            } else {
-                Err(TreeFault::new(FaultWord::UnknownName, at))
-            }
-        }
-        found => on_instance(found, at),
-    }
-}
-
-fn parent_method(
-    alloc: Global,
-    setting: &Setting,
-    names: &MethodNames,
-    class: usize,
-    word: &Word,
-    count: usize,
-) -> Result<Callee, WalkFault>
-    ensures { Comes (spec.parent_method (around setting.now) (namings names.now) class word.now count) result }
-{
-    let found = method_use(setting, names, class, &word.name, count)?;
-    match exception_method(alloc, setting, class, found, word, count)? {
-        Some(builtin) => Ok(Callee::Builtin(builtin)),
-        None => Ok(through_super(setting.members, found, word.span.from)?),
     }
 }
 
@@ -310,10 +229,14 @@ fn behind_super(
 ) -> Result<Callee, WalkFault>
     ensures { Comes (spec.behind_super (around setting.now) (namings names.now) parent word.now count) result }
 {
+    let name = &word.name;
     match parent {
-        Parent::Class(class) => parent_method(alloc, setting, names, class, word, count),
+        Parent::Class(class) => {
+            let found = method_use(alloc, setting, names, Way::Super, class, name, count)?;
+            Ok(on_instance(found, word.span.from)?)
+        }
         Parent::Exception => {
-            let found = builtin_use(alloc, "exception", &word.name, count, true)?;
+            let found = builtin_use(alloc, "exception", name, count, Target::OnValue(false))?;
             Ok(built_in(found, word.span.from)?)
         }
         Parent::None => Err(TreeFault::new(FaultWord::UnknownName, word.span.from).into()),
@@ -350,6 +273,24 @@ pub fn called_on(
     }
 }
 
+// Where there is no `this`, methods of instances are passed over.
+fn own_use(
+    alloc: Global,
+    setting: &Setting,
+    names: &MethodNames,
+    class: usize,
+    name: &Name,
+    count: usize,
+) -> Result<MethodUse, NoMemory>
+    ensures { IfOk result (λ u. u ≡ spec.own_use (around setting.now) (namings names.now) class name.now count) }
+{
+    if setting.is_static {
+        Ok(MethodUse::Unknown)
+    } else {
+        method_use(alloc, setting, names, Way::Instance, class, name, count)
+    }
+}
+
 fn own_method(
     alloc: Global,
     setting: &Setting,
@@ -360,14 +301,10 @@ fn own_method(
 ) -> Result<Callee, WalkFault>
     ensures { Comes (spec.own_method (around setting.now) (namings names.now) class word.now count) result }
 {
-    let found = method_use(setting, names, class, &word.name, count)?;
-    if setting.is_static {
-        return Ok(in_own_class(true, found, word.span.from)?);
-    }
-    match exception_method(alloc, setting, class, found, word, count)? {
-        Some(builtin) => Ok(Callee::Builtin(builtin)),
-        None => Ok(in_own_class(false, found, word.span.from)?),
-    }
+    let name = &word.name;
+    let own = own_use(alloc, setting, names, class, name, count)?;
+    let other = method_use(alloc, setting, names, Way::Static, class, name, count)?;
+    Ok(or_static(own, other, word.span.from)?)
 }
 
 /// What a call of a name alone means: a method of the class whose code it is, or of an ancestor, on `this` or static.

@@ -6,7 +6,6 @@ mod callee;
 mod found;
 mod named;
 
-pub use builtin::BuiltinUse;
+pub use builtin::laws_of_numbers;
 pub use callee::{Callee, called_alone, called_on};
-pub use found::MethodUse;
 pub use named::MethodNames;

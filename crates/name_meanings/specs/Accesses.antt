@@ -1,16 +1,16 @@
 -- What stands behind a dot (docs/language.md, "Names in code").
 use Rattle.std.specs.Prelude.{ℕ, Bool, true, false, List, Option, None, Some}
-use Rattle.apex_schema.specs.declared.reply.FaultWord.TheVariants.{UnknownName, NotVisible, BadTrigger}
+use Rattle.fault_words.specs.declared.fault.FaultWord.TheVariants.{UnknownName, NotVisible, BadTrigger}
 use Rattle.apex_schema.specs.declared.schema.Field.{Field}
 use Rattle.apex_schema.specs.declared.schema.FieldKind.{FieldKind}
 use Rattle.apex_schema.specs.declared.schema.Object.{Object}
 use Rattle.apex_syntax.specs.declared.word.Word.{Word}
-use Rattle.class_members.specs.declared.member.ClassMembers.{ClassMembers}
-use Rattle.class_members.specs.declared.tables.Member.{Member}
+use Rattle.class_tables.specs.declared.member.ClassMembers.{ClassMembers}
+use Rattle.class_tables.specs.declared.tables.Member.{Member}
 use Rattle.name_meanings.specs.declared.access.Access.{Access}
 use Rattle.name_meanings.specs.declared.access.Access.TheVariants as A
 use Rattle.name_meanings.specs.declared.field.FieldUse.{FieldUse}
-use Rattle.name_meanings.specs.declared.field.FieldUse.TheVariants.{Hidden, Static, Instance}
+use Rattle.name_meanings.specs.declared.field.FieldUse.TheVariants.{Unknown, Hidden, Found}
 use Rattle.name_meanings.specs.Fields.{field_use, field_kind, role_of, static_value}
 use Rattle.name_meanings.specs.Parts.{with_part}
 use Rattle.name_meanings.specs.Records.{cell_type, may_set_cell, parent_object, field_in}
@@ -26,10 +26,10 @@ use Rattle.static_types.specs.declared.kind.ValueType.TheOpen.{ValueType-F}
 use Rattle.static_types.specs.declared.kind.ValueType.TheVariants as V
 use Rattle.static_types.specs.declared.kind.ValueType.TheViews.{out-ValueType}
 use Rattle.type_names.specs.Walks.{Walk, Gives, wrong, onward}
-use Rattle.typed_trees.specs.declared.expr.TriggerVariable.{TriggerVariable}
-use Rattle.typed_trees.specs.declared.expr.TypedExpr.TheVariants as T
-use Rattle.typed_trees.specs.declared.expr.TypedPart.{TypedPart}
-use Rattle.typed_trees.specs.declared.expr.TypedPart.TheVariants as Part
+use Rattle.typed_program.specs.declared.expr.TriggerVariable.{TriggerVariable}
+use Rattle.typed_program.specs.declared.expr.TypedExpr.TheVariants as T
+use Rattle.typed_program.specs.declared.expr.TypedPart.{TypedPart}
+use Rattle.typed_program.specs.declared.expr.TypedPart.TheVariants as Part
 use Rattle.typed_values.specs.declared.typed.Kind.{Kind}
 use Rattle.typed_values.specs.declared.typed.Kind.TheVariants as K
 use Rattle.typed_values.specs.declared.typed.Role.{Role}
@@ -43,9 +43,9 @@ use Rattle.typed_values.specs.Fits.{typed, plain}
 
 -- only statics stand behind a class
 abbrev pub static_access : FieldUse → ℕ → Walk Access
-static_access (Static member sets) at = Gives (A.Static member sets)
-static_access (Hidden true) at = wrong NotVisible at
-static_access _ at = wrong UnknownName at
+static_access (Found member sets) at = Gives (A.Static member sets)
+static_access Hidden at = wrong NotVisible at
+static_access Unknown at = wrong UnknownName at
 
 abbrev pub variable_or : Option TriggerVariable → ℕ → ℕ → Walk Access
 variable_or (Some v) object at = Gives (A.Variable v object)
@@ -63,7 +63,7 @@ system_space w = onward w (λ space. Gives (A.Space space))
 
 abbrev pub space_access : Around → Space → ℕ → Word → Walk Access
 space_access a S.System at w = system_space (system_member at w)
-space_access a (S.Class c) at w = static_access (field_use a c w.name) w.span.from
+space_access a (S.Class c) at w = static_access (field_use a c true w.name) w.span.from
 space_access a S.Trigger at w = trigger_access a.trigger at w
 space_access a _ at w = wrong UnknownName w.span.from
 
@@ -71,9 +71,9 @@ space_access a _ at w = wrong UnknownName w.span.from
 
 -- only fields of instances stand behind an instance
 abbrev pub instance_access : FieldUse → ℕ → Walk Access
-instance_access (Instance member sets) at = Gives (A.Field member sets)
-instance_access (Hidden false) at = wrong NotVisible at
-instance_access _ at = wrong UnknownName at
+instance_access (Found member sets) at = Gives (A.Field member sets)
+instance_access Hidden at = wrong NotVisible at
+instance_access Unknown at = wrong UnknownName at
 
 abbrev pub cell_access : ℕ → ℕ → Option Field → Option Access
 cell_access object n (Some f) = Some (A.Cell object n (cell_type f.kind) (may_set_cell f.kind))
@@ -110,7 +110,7 @@ abbrev pub record_access : List Object → ℕ → Word → Walk Access
 record_access objects object w = access_or (known_word objects (record_key object w.name)) w.span.from
 
 abbrev pub type_access : Around → ValueType-F ValueType → Word → Walk Access
-type_access a (ValueType-F.Class c) w = instance_access (field_use a c w.name) w.span.from
+type_access a (ValueType-F.Class c) w = instance_access (field_use a c false w.name) w.span.from
 type_access a (ValueType-F.Record object) w = record_access a.objects object w
 type_access a _ w = wrong UnknownName w.span.from
 

@@ -1,27 +1,20 @@
 -- Fields of classes as code may use them (docs/language.md, "Names in code").
-use Rattle.std.specs.Prelude.{ℕ, ◌&&◌, ◌||◌, not, eqb, Bool, false, cond, List, slice_get, Option, None, Some}
-use Rattle.class_members.specs.declared.member.ClassMembers.{ClassMembers}
-use Rattle.class_members.specs.declared.member.FieldHead.{FieldHead}
-use Rattle.class_members.specs.declared.tables.Member.{Member}
-use Rattle.class_members.specs.Lookups.{found_field}
+use Rattle.std.specs.Prelude.{ℕ, ◌&&◌, ◌||◌, not, eqb, Bool, false, cond, List, Option, None, Some}
+use Rattle.class_tables.specs.declared.member.ClassMembers.{ClassMembers}
+use Rattle.class_tables.specs.declared.member.FieldHead.{FieldHead}
+use Rattle.class_tables.specs.declared.tables.Member.{Member}
+use Rattle.class_tables.specs.Lookups.{field_at, found_field}
 use Rattle.name_meanings.specs.declared.field.FieldUse.{FieldUse}
-use Rattle.name_meanings.specs.declared.field.FieldUse.TheVariants.{Unknown, Hidden, Static, Instance}
+use Rattle.name_meanings.specs.declared.field.FieldUse.TheVariants.{Unknown, Hidden, Found}
 use Rattle.name_meanings.specs.Settings.{Around}
 use Rattle.static_types.specs.declared.kind.ValueType.{ValueType}
-use Rattle.typed_trees.specs.declared.expr.TypedExpr.TheVariants as T
+use Rattle.typed_program.specs.declared.expr.TypedExpr.TheVariants as T
 use Rattle.typed_values.specs.declared.typed.Kind.{Kind}
 use Rattle.typed_values.specs.declared.typed.Kind.TheVariants.{Faulty, Is}
 use Rattle.typed_values.specs.declared.typed.Role.{Role}
 use Rattle.typed_values.specs.declared.typed.Role.TheVariants.{Plain, Variable}
 use Rattle.typed_values.specs.declared.typed.Typed.{Typed}
 use Rattle.typed_values.specs.Fits.{typed}
-
-abbrev pub field_in : Option ClassMembers → ℕ → Option FieldHead
-field_in (Some m) n = slice_get m.fields n
-field_in None n = None
-
-abbrev pub field_at : List ClassMembers → Member → Option FieldHead
-field_at all member = field_in (slice_get all member.class) member.place
 
 abbrev pub is_own : Option ℕ → ℕ → Bool
 is_own (Some c) declares = eqb c declares
@@ -33,23 +26,19 @@ may_set a f class = not f.is_final || (not f.is_static && (a.in_constructor && i
 
 -- a private field is seen in its own class alone
 abbrev pub use_of : Around → Member → FieldHead → FieldUse
-use_of a member f =
-    cond (f.is_private && not (is_own a.class member.class)) (Hidden f.is_static)
-    (cond f.is_static (Static member (may_set a f member.class)) (Instance member (may_set a f member.class)))
+use_of a member f = cond (f.is_private && not (is_own a.class member.class)) Hidden (Found member (may_set a f member.class))
 
 abbrev pub use_or : Around → Member → Option FieldHead → FieldUse
 use_or a member (Some f) = use_of a member f
 use_or a member None = Unknown
 
-abbrev pub use_at : Around → Member → FieldUse
-use_at a member = use_or a member (field_at a.members member)
-
 abbrev pub use_found : Around → Option Member → FieldUse
-use_found a (Some member) = use_at a member
+use_found a (Some member) = use_or a member (field_at a.members member)
 use_found a None = Unknown
 
-abbrev pub field_use : Around → ℕ → List ℕ → FieldUse
-field_use a class name = use_found a (found_field a.members a.heads class name)
+-- statics and fields of instances are looked for apart
+abbrev pub field_use : Around → ℕ → Bool → List ℕ → FieldUse
+field_use a class is_static name = use_found a (found_field a.members a.heads class is_static name)
 
 -- a type that has a fault is told elsewhere
 abbrev pub known_kind : Option ValueType → Kind

@@ -1,13 +1,12 @@
 -- Names that stand alone (docs/language.md, "Names in code").
-use Rattle.std.specs.Prelude.{ℕ, ◌&&◌, not, Bool, cond, List, Option, None, Some}
-use Rattle.apex_schema.specs.declared.reply.FaultWord.{FaultWord}
-use Rattle.apex_schema.specs.declared.reply.FaultWord.TheVariants.{UnknownName, NotVisible}
+use Rattle.std.specs.Prelude.{ℕ, Bool, true, false, cond, List, Option, None, Some}
+use Rattle.fault_words.specs.declared.fault.FaultWord.TheVariants.{UnknownName, NotVisible}
 use Rattle.apex_syntax.specs.declared.word.Word.{Word}
-use Rattle.class_members.specs.declared.member.ClassMembers.{ClassMembers}
-use Rattle.class_members.specs.declared.tables.Member.{Member}
+use Rattle.class_tables.specs.declared.member.ClassMembers.{ClassMembers}
+use Rattle.class_tables.specs.declared.tables.Member.{Member}
 use Rattle.local_scopes.specs.Scopes.{slot_of, kind_in}
 use Rattle.name_meanings.specs.declared.field.FieldUse.{FieldUse}
-use Rattle.name_meanings.specs.declared.field.FieldUse.TheVariants.{Unknown, Hidden, Static, Instance}
+use Rattle.name_meanings.specs.declared.field.FieldUse.TheVariants.{Unknown, Hidden, Found}
 use Rattle.name_meanings.specs.declared.name.Meaning.{Meaning}
 use Rattle.name_meanings.specs.declared.name.Meaning.TheVariants as M
 use Rattle.name_meanings.specs.Fields.{field_use, field_kind, known_kind, role_of, static_value}
@@ -17,9 +16,9 @@ use Rattle.name_meanings.specs.Spaces.{space_named}
 use Rattle.static_types.specs.declared.kind.ValueType.{ValueType}
 use Rattle.static_types.specs.declared.kind.ValueType.TheVariants as V
 use Rattle.type_names.specs.Walks.{Walk, Gives, wrong, onward}
-use Rattle.typed_trees.specs.declared.expr.Constant.TheVariants.{Null}
-use Rattle.typed_trees.specs.declared.expr.TypedExpr.TheVariants as T
-use Rattle.typed_trees.specs.declared.expr.TypedPart.TheVariants as Part
+use Rattle.typed_program.specs.declared.expr.Constant.TheVariants.{Null}
+use Rattle.typed_program.specs.declared.expr.TypedExpr.TheVariants as T
+use Rattle.typed_program.specs.declared.expr.TypedPart.TheVariants as Part
 use Rattle.typed_values.specs.declared.typed.Kind.{Kind}
 use Rattle.typed_values.specs.declared.typed.Kind.TheVariants as K
 use Rattle.typed_values.specs.declared.typed.Role.TheVariants as R
@@ -29,22 +28,24 @@ use Rattle.typed_values.specs.Fits.{typed, plain}
 abbrev pub space_meaning : Around → Word → Walk Meaning
 space_meaning a w = onward (space_named a.names w) (λ space. Gives (M.Space space))
 
--- a field of `this` needs one
-abbrev pub own_meaning : Around → Member → Bool → ℕ → Walk Meaning
-own_meaning a member sets at = cond a.is_static (wrong UnknownName at) (Gives (M.Own member sets))
+-- a static, and then what stands before a dot
+abbrev pub static_meaning : Around → FieldUse → Word → Walk Meaning
+static_meaning a Unknown w = space_meaning a w
+static_meaning a Hidden w = wrong NotVisible w.span.from
+static_meaning a (Found member sets) w = Gives (M.Static member sets)
 
--- a field of `this` isn't there where there is no `this`, whoever may see it
-abbrev pub hidden_word : Around → Bool → FaultWord
-hidden_word a is_static = cond (a.is_static && not is_static) UnknownName NotVisible
+-- a field of `this`, and then a static
+abbrev pub field_meaning : Around → ℕ → FieldUse → Word → Walk Meaning
+field_meaning a class Unknown w = static_meaning a (field_use a class true w.name) w
+field_meaning a class Hidden w = wrong NotVisible w.span.from
+field_meaning a class (Found member sets) w = Gives (M.Own member sets)
 
-abbrev pub field_meaning : Around → FieldUse → Word → Walk Meaning
-field_meaning a Unknown w = space_meaning a w
-field_meaning a (Hidden is_static) w = wrong (hidden_word a is_static) w.span.from
-field_meaning a (Static member sets) w = Gives (M.Static member sets)
-field_meaning a (Instance member sets) w = own_meaning a member sets w.span.from
+-- where there is no `this`, fields of instances are passed over
+abbrev pub own_use : Around → ℕ → List ℕ → FieldUse
+own_use a class name = cond a.is_static Unknown (field_use a class false name)
 
 abbrev pub meaning_in : Around → Option ℕ → Word → Walk Meaning
-meaning_in a (Some class) w = field_meaning a (field_use a class w.name) w
+meaning_in a (Some class) w = field_meaning a class (own_use a class w.name) w
 meaning_in a None w = space_meaning a w
 
 abbrev pub class_meaning : Around → Word → Walk Meaning
@@ -54,7 +55,7 @@ abbrev pub local_or : Option ℕ → Around → Word → Walk Meaning
 local_or (Some slot) a w = Gives (M.Local slot)
 local_or None a w = class_meaning a w
 
--- a local, a field or a static, and then what stands before a dot
+-- a local, a field of `this`, a static, and then what stands before a dot
 abbrev pub meaning_of : Around → List (List ℕ × ValueType) → Word → Walk Meaning
 meaning_of a scope w = local_or (slot_of scope w.name) a w
 

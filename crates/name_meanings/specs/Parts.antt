@@ -1,15 +1,15 @@
 -- What goes on with a value: parts of one path stand in one list.
 use Rattle.std.specs.Prelude.{List, [], ◌∷◌, ◌++◌}
-use Rattle.typed_trees.specs.declared.expr.TypedBind.{TypedBind}
-use Rattle.typed_trees.specs.declared.expr.TypedExpr.{TypedExpr}
-use Rattle.typed_trees.specs.declared.expr.TypedBind.TheOpen.{TypedExpr-F}
-use Rattle.typed_trees.specs.declared.expr.TypedExpr.TheVariants.{Postfix}
-use Rattle.typed_trees.specs.declared.expr.TypedBind.TheViews.{out-TypedExpr}
-use Rattle.typed_trees.specs.declared.expr.TypedItem.{TypedItem}
-use Rattle.typed_trees.specs.declared.expr.TypedNew.{TypedNew}
-use Rattle.typed_trees.specs.declared.expr.TypedOperand.{TypedOperand}
-use Rattle.typed_trees.specs.declared.expr.TypedPair.{TypedPair}
-use Rattle.typed_trees.specs.declared.expr.TypedPart.{TypedPart}
+use Rattle.typed_program.specs.declared.expr.TypedBind.{TypedBind}
+use Rattle.typed_program.specs.declared.expr.TypedExpr.{TypedExpr}
+use Rattle.typed_program.specs.declared.expr.TypedBind.TheOpen.{TypedExpr-F}
+use Rattle.typed_program.specs.declared.expr.TypedExpr.TheVariants.{Postfix}
+use Rattle.typed_program.specs.declared.expr.TypedBind.TheViews.{out-TypedExpr}
+use Rattle.typed_program.specs.declared.expr.TypedItem.{TypedItem}
+use Rattle.typed_program.specs.declared.expr.TypedNew.{TypedNew}
+use Rattle.typed_program.specs.declared.expr.TypedOperand.{TypedOperand}
+use Rattle.typed_program.specs.declared.expr.TypedPair.{TypedPair}
+use Rattle.typed_program.specs.declared.expr.TypedPart.{TypedPart}
 
 abbrev pub first_part : TypedExpr → TypedPart → TypedExpr
 first_part head part = Postfix head (part ∷ [])

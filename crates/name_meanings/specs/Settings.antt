@@ -1,9 +1,9 @@
 -- Where an expression stands, its locals apart (docs/language.md, "Names in code").
 use Rattle.std.specs.Prelude.{ℕ, Bool, List, Option}
 use Rattle.apex_schema.specs.declared.schema.Object.{Object}
-use Rattle.class_heads.specs.declared.head.ClassHead.{ClassHead}
-use Rattle.class_members.specs.declared.member.ClassMembers.{ClassMembers}
-use Rattle.class_members.specs.Tables.{all_in}
+use Rattle.class_tables.specs.declared.head.ClassHead.{ClassHead}
+use Rattle.class_tables.specs.declared.member.ClassMembers.{ClassMembers}
+use Rattle.class_tables.specs.Tables.{all_in}
 use Rattle.name_meanings.specs.declared.setting.Setting.{Setting}
 use Rattle.type_names.specs.TypeTrees.{Known, known}
 

@@ -1,14 +1,15 @@
 -- Names that stand before a dot and are no values (docs/language.md, "Names in code").
-use Rattle.std.specs.Prelude.{ℕ, cond, List, [], ◌∷◌, codes, bytes_eq, Option, None, Some}
-use Rattle.apex_schema.specs.declared.reply.FaultWord.TheVariants.{DoubleRefused, UnknownName}
+use Rattle.std.specs.Prelude.{ℕ, cond, List, [], ◌∷◌, codes, bytes_eq, option_map, Option, None, Some}
+use Rattle.fault_words.specs.declared.fault.FaultWord.TheVariants.{DoubleRefused, UnknownName}
 use Rattle.apex_syntax.specs.declared.word.Word.{Word}
 use Rattle.name_meanings.specs.declared.space.SpaceRow.{SpaceRow}
+use Rattle.schema_names.specs.Names.{place_of}
 use Rattle.static_types.specs.declared.named.TypeName.{TypeName}
 use Rattle.static_types.specs.declared.named.TypeName.TheVariants as T
 use Rattle.static_types.specs.Names.{type_names, said as says}
 use Rattle.type_names.specs.declared.head.TypeHead.{TypeHead}
 use Rattle.type_names.specs.declared.head.TypeHead.TheVariants as H
-use Rattle.type_names.specs.TypeTrees.{Known, alone}
+use Rattle.type_names.specs.TypeTrees.{Known, or_else}
 use Rattle.type_names.specs.Walks.{Walk, Gives, wrong}
 use Rattle.typed_values.specs.declared.typed.Space.{Space}
 use Rattle.typed_values.specs.declared.typed.Space.TheVariants as S
@@ -49,13 +50,19 @@ abbrev pub type_or : Option TypeHead → ℕ → Walk Space
 type_or (Some head) at = head_space head at
 type_or None at = wrong UnknownName at
 
--- a word of the platform, a built-in type, an object or a class, in this order
+-- before a dot a class comes before an object
+abbrev pub before_dot : Known → List ℕ → Option TypeHead
+before_dot known name =
+    or_else (option_map H.Named (says type_names name))
+    (or_else (option_map H.Class (place_of known.classes name)) (option_map H.Record (place_of known.objects name)))
+
+-- a word of the platform, a built-in type, a class or an object, in this order
 abbrev pub space_or : Option Space → Option TypeHead → ℕ → Walk Space
 space_or (Some space) head at = Gives space
 space_or None head at = type_or head at
 
 abbrev pub space_named : Known → Word → Walk Space
-space_named known w = space_or (platform_word w.name) (alone known w.name) w.span.from
+space_named known w = space_or (platform_word w.name) (before_dot known w.name) w.span.from
 
 abbrev pub named_or : Option TypeName → ℕ → Word → Walk Space
 named_or (Some named) at w = type_space named at

@@ -4,8 +4,8 @@ use Rattle.name_meanings.specs.declared.variable.VariableRow.{VariableRow}
 use Rattle.static_types.specs.declared.kind.Primitive.TheVariants as P
 use Rattle.static_types.specs.declared.kind.ValueType.{ValueType}
 use Rattle.static_types.specs.declared.kind.ValueType.TheVariants as V
-use Rattle.typed_trees.specs.declared.expr.TriggerVariable.{TriggerVariable}
-use Rattle.typed_trees.specs.declared.expr.TriggerVariable.TheVariants.{New, Old, NewMap, OldMap, IsInsert, IsUpdate, IsDelete, IsBefore, IsAfter, Size}
+use Rattle.typed_program.specs.declared.expr.TriggerVariable.{TriggerVariable}
+use Rattle.typed_program.specs.declared.expr.TriggerVariable.TheVariants.{New, Old, NewMap, OldMap, IsInsert, IsUpdate, IsDelete, IsBefore, IsAfter, Size}
 
 abbrev pub variable_in : List VariableRow → List ℕ → Option TriggerVariable
 variable_in [] name = None

@@ -2,7 +2,7 @@
 
 ghost use Rattle.std.specs.Prelude.{◌≡◌, IfOk};
 ghost use Rattle.std.specs.Option.{option_copied};
-ghost use Rattle.class_members.specs.Tables.{all_in};
+ghost use Rattle.class_tables.specs.Tables.{all_in};
 ghost use Rattle.static_types.specs.declared.kind.ValueType.TheViews.{out-ValueType};
 ghost use Rattle.type_names.specs.Walks.{Comes, Tells};
 ghost use Rattle.name_meanings.specs.Accesses as spec;
@@ -16,18 +16,19 @@ use crate::space::system_member;
 use crate::variable::{variable_named, variable_type};
 use apex_list::Boxed;
 use apex_num::NoMemory;
-use apex_schema::{FaultWord, Field, FieldKind, Object};
+use apex_schema::{Field, FieldKind, Object};
 use apex_syntax::Word;
-use class_members::{Member, MemberTables};
+use class_tables::{Member, MemberTables};
+use fault_words::FaultWord;
 use record_words::{RecordKey, RecordWord, RecordWords};
 use static_types::{Primitive, ValueType};
 use std::alloc::Global;
 use type_names::{TreeFault, WalkFault};
-use typed_trees::{TriggerVariable, TypedExpr, TypedPart};
+use typed_program::{TriggerVariable, TypedExpr, TypedPart};
 use typed_values::{Kind, Role, Space, Typed};
 
 /// What a name behind a dot leads to.
-#[derive(Clone, Copy, Debug, PartialEq, Eq, Drop)]
+#[derive(Clone, Copy, Drop)]
 pub enum Access {
     /// Something that is no value.
     Space(Space),
@@ -51,11 +52,9 @@ fn static_access(found: FieldUse, at: usize) -> Result<Access, TreeFault>
     ensures { Tells (spec.static_access found at) result }
 {
     match found {
-        FieldUse::Static(member, sets) => Ok(Access::Static(member, sets)),
-        FieldUse::Hidden(true) => Err(TreeFault::new(FaultWord::NotVisible, at)),
-        FieldUse::Hidden(false) | FieldUse::Unknown | FieldUse::Instance(..) => {
-            Err(TreeFault::new(FaultWord::UnknownName, at))
-        }
+        FieldUse::Found(member, sets) => Ok(Access::Static(member, sets)),
+        FieldUse::Hidden => Err(TreeFault::new(FaultWord::NotVisible, at)),
+        FieldUse::Unknown => Err(TreeFault::new(FaultWord::UnknownName, at)),
     }
 }
 
@@ -63,11 +62,9 @@ fn instance_access(found: FieldUse, at: usize) -> Result<Access, TreeFault>
     ensures { Tells (spec.instance_access found at) result }
 {
     match found {
-        FieldUse::Instance(member, sets) => Ok(Access::Field(member, sets)),
-        FieldUse::Hidden(false) => Err(TreeFault::new(FaultWord::NotVisible, at)),
-        FieldUse::Hidden(true) | FieldUse::Unknown | FieldUse::Static(..) => {
-            Err(TreeFault::new(FaultWord::UnknownName, at))
-        }
+        FieldUse::Found(member, sets) => Ok(Access::Field(member, sets)),
+        FieldUse::Hidden => Err(TreeFault::new(FaultWord::NotVisible, at)),
+        FieldUse::Unknown => Err(TreeFault::new(FaultWord::UnknownName, at)),
     }
 }
 
@@ -103,7 +100,10 @@ fn space_access(
             let space = system_member(at, word)?;
             Ok(Access::Space(space))
         }
-        Space::Class(c) => static_access(field_use(setting, c, &word.name), word.span.from),
+        Space::Class(c) => {
+            let found = field_use(setting, c, true, &word.name);
+            static_access(found, word.span.from)
+        }
         Space::Trigger => trigger_access(setting.trigger, at, word),
         Space::Record(_)
         | Space::Named(_)
@@ -178,7 +178,7 @@ fn type_access(setting: &Setting, kind: &ValueType, word: &Word) -> Result<Acces
 {
     match kind {
         ValueType::Class(c) => {
-            let found = field_use(setting, *c, &word.name);
+            let found = field_use(setting, *c, false, &word.name);
             Ok(instance_access(found, word.span.from)?)
         }
         ValueType::Record(object) => record_access(setting.words, *object, word),
@@ -226,8 +226,14 @@ fn going_on(
 ) -> Result<Typed, NoMemory>
     ensures { IfOk result (λ t. t ≡ spec.going_on receiver kind role part) }
 {
+    let at = receiver.at;
     let tree = with_part(alloc, receiver.tree, part)?;
-    Typed::of(alloc, receiver.at, kind, role, tree)
+    Ok(Typed {
+        at,
+        kind,
+        role,
+        tree,
+    })
 }
 
 fn field_value(

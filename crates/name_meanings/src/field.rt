@@ -1,41 +1,28 @@
 // Fields of classes.
 
-ghost use Rattle.std.specs.Prelude.{◌≡◌, IfOk};
-ghost use Rattle.std.specs.Option.{option_copied};
-ghost use Rattle.class_members.specs.Tables.{all_in};
+ghost use Rattle.std.specs.Prelude.{◌≡◌, Some, IfOk};
+ghost use Rattle.class_tables.specs.Tables.{all_in};
 ghost use Rattle.name_meanings.specs.Fields as spec;
 ghost use Rattle.name_meanings.specs.Settings.{around};
 
 use crate::setting::Setting;
 use apex_num::NoMemory;
 use apex_text::Name;
-use class_members::{FieldHead, Member, MemberTables};
+use class_tables::{FieldHead, Member, MemberTables};
 use static_types::ValueType;
 use std::alloc::Global;
-use typed_trees::TypedExpr;
+use typed_program::TypedExpr;
 use typed_values::{Kind, Role, Typed};
 
 /// How a name may be used as that of a field.
-#[derive(Clone, Copy, Debug, PartialEq, Eq, Drop)]
+#[derive(Clone, Copy, Drop)]
 pub enum FieldUse {
     /// There is no such field.
     Unknown,
-    /// It is private, and the code isn't that of its class; and whether it is a static.
-    Hidden(bool),
-    /// A static, and whether it may be assigned to.
-    Static(Member, bool),
-    /// A field of an instance, and whether it may be assigned to.
-    Instance(Member, bool),
-}
-
-// The field that a member is.
-fn field_at(members: &MemberTables, member: Member) -> Option<&FieldHead>
-    ensures { option_copied result ≡ spec.field_at (all_in members.now) member }
-{
-    match members.tables.get(member.class) {
-        Some(table) => table.members.fields.get(member.place),
-        None => None,
-    }
+    /// It is private, and the code isn't that of its class.
+    Hidden,
+    /// It is there, and whether it may be assigned to.
+    Found(Member, bool),
 }
 
 /// Whether code of this class, if it is a class's, is that of the class that declares something.
@@ -59,30 +46,26 @@ fn use_of(setting: &Setting, member: Member, field: &FieldHead) -> FieldUse
     ensures { result ≡ spec.use_of (around setting.now) member field.now }
 {
     if field.is_private && !is_own(setting.class, member.class) {
-        return FieldUse::Hidden(field.is_static);
-    }
-    let sets = may_set(setting, field, member.class);
-    if field.is_static {
-        FieldUse::Static(member, sets)
+        FieldUse::Hidden
     } else {
-        FieldUse::Instance(member, sets)
+        FieldUse::Found(member, may_set(setting, field, member.class))
     }
 }
 
 fn use_at(setting: &Setting, member: Member) -> FieldUse
-    ensures { result ≡ spec.use_at (around setting.now) member }
+    ensures { result ≡ spec.use_found (around setting.now) (Some member) }
 {
-    match field_at(setting.members, member) {
+    match setting.members.field_at(member) {
         Some(field) => use_of(setting, member, field),
         None => FieldUse::Unknown,
     }
 }
 
-/// How code may use a name as that of a field of a class.
-pub fn field_use(setting: &Setting, class: usize, name: &Name) -> FieldUse
-    ensures { result ≡ spec.field_use (around setting.now) class name.now }
+/// How code may use a name as that of a static of a class, or of a field of its instances.
+pub fn field_use(setting: &Setting, class: usize, is_static: bool, name: &Name) -> FieldUse
+    ensures { result ≡ spec.field_use (around setting.now) class is_static name.now }
 {
-    match setting.members.field(setting.lines, class, name) {
+    match setting.members.field(setting.lines, class, is_static, name) {
         Some(member) => use_at(setting, member),
         None => FieldUse::Unknown,
     }
@@ -101,7 +84,7 @@ fn known_kind(kind: &Option<ValueType>) -> Result<Kind, NoMemory>
 pub fn field_kind(members: &MemberTables, member: Member) -> Result<Kind, NoMemory>
     ensures { IfOk result (λ k. k ≡ spec.field_kind (all_in members.now) member) }
 {
-    match field_at(members, member) {
+    match members.field_at(member) {
         Some(field) => known_kind(&field.kind),
         None => Ok(Kind::Faulty),
     }

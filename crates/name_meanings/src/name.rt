@@ -1,7 +1,7 @@
 // Names that stand alone.
 
 ghost use Rattle.std.specs.Prelude.{◌≡◌, IfOk};
-ghost use Rattle.class_members.specs.Tables.{all_in};
+ghost use Rattle.class_tables.specs.Tables.{all_in};
 ghost use Rattle.type_names.specs.Walks.{Comes, Tells};
 ghost use Rattle.name_meanings.specs.NamesAlone as spec;
 ghost use Rattle.name_meanings.specs.Settings.{around};
@@ -12,18 +12,19 @@ use crate::setting::Setting;
 use crate::space::space_named;
 use apex_list::Boxed;
 use apex_num::NoMemory;
-use apex_schema::FaultWord;
 use apex_syntax::Word;
-use class_members::{Member, MemberTables};
+use apex_text::Name;
+use class_tables::{Member, MemberTables};
+use fault_words::FaultWord;
 use local_scopes::Scope;
 use static_types::ValueType;
 use std::alloc::Global;
 use type_names::{TreeFault, WalkFault};
-use typed_trees::{Constant, TypedExpr, TypedPart};
+use typed_program::{Constant, TypedExpr, TypedPart};
 use typed_values::{Kind, Role, Space, Typed};
 
 /// What a name that stands alone means.
-#[derive(Clone, Copy, Debug, PartialEq, Eq, Drop)]
+#[derive(Clone, Copy, Drop)]
 pub enum Meaning {
     /// The local in a slot.
     Local(usize),
@@ -42,41 +43,41 @@ fn space_meaning(setting: &Setting, word: &Word) -> Result<Meaning, TreeFault>
     Ok(Meaning::Space(space))
 }
 
-fn own_meaning(
-    setting: &Setting,
-    member: Member,
-    sets: bool,
-    at: usize,
-) -> Result<Meaning, TreeFault>
-    ensures { Tells (spec.own_meaning (around setting.now) member sets at) result }
-{
-    if setting.is_static {
-        return Err(TreeFault::new(FaultWord::UnknownName, at));
-    }
-    Ok(Meaning::Own(member, sets))
-}
-
-// A field of `this` isn't there where there is no `this`, whoever may see it.
-fn hidden_word(setting: &Setting, is_static: bool) -> FaultWord
-    ensures { result ≡ spec.hidden_word (around setting.now) is_static }
-{
-    if setting.is_static && !is_static {
-        FaultWord::UnknownName
-    } else {
-        FaultWord::NotVisible
-    }
-}
-
-fn field_meaning(setting: &Setting, found: FieldUse, word: &Word) -> Result<Meaning, TreeFault>
-    ensures { Tells (spec.field_meaning (around setting.now) found word.now) result }
+fn static_meaning(setting: &Setting, found: FieldUse, word: &Word) -> Result<Meaning, TreeFault>
+    ensures { Tells (spec.static_meaning (around setting.now) found word.now) result }
 {
     match found {
         FieldUse::Unknown => space_meaning(setting, word),
-        FieldUse::Hidden(is_static) => {
-            Err(TreeFault::new(hidden_word(setting, is_static), word.span.from))
+        FieldUse::Hidden => Err(TreeFault::new(FaultWord::NotVisible, word.span.from)),
+        FieldUse::Found(member, sets) => Ok(Meaning::Static(member, sets)),
+    }
+}
+
+fn field_meaning(
+    setting: &Setting,
+    class: usize,
+    found: FieldUse,
+    word: &Word,
+) -> Result<Meaning, TreeFault>
+    ensures { Tells (spec.field_meaning (around setting.now) class found word.now) result }
+{
+    match found {
+        FieldUse::Unknown => {
+            static_meaning(setting, field_use(setting, class, true, &word.name), word)
         }
-        FieldUse::Static(member, sets) => Ok(Meaning::Static(member, sets)),
-        FieldUse::Instance(member, sets) => own_meaning(setting, member, sets, word.span.from),
+        FieldUse::Hidden => Err(TreeFault::new(FaultWord::NotVisible, word.span.from)),
+        FieldUse::Found(member, sets) => Ok(Meaning::Own(member, sets)),
+    }
+}
+
+// Where there is no `this`, fields of instances are passed over.
+fn own_use(setting: &Setting, class: usize, name: &Name) -> FieldUse
+    ensures { result ≡ spec.own_use (around setting.now) class name.now }
+{
+    if setting.is_static {
+        FieldUse::Unknown
+    } else {
+        field_use(setting, class, false, name)
     }
 }
 
@@ -84,7 +85,7 @@ fn class_meaning(setting: &Setting, word: &Word) -> Result<Meaning, TreeFault>
     ensures { Tells (spec.class_meaning (around setting.now) word.now) result }
 {
     match setting.class {
-        Some(class) => field_meaning(setting, field_use(setting, class, &word.name), word),
+        Some(class) => { field_meaning(setting, class, own_use(setting, class, &word.name), word) }
         None => space_meaning(setting, word),
     }
 }
@@ -119,7 +120,12 @@ fn own_field(
     let kind = field_kind(members, member)?;
     let this = Boxed::new(alloc, TypedExpr::This)?;
     let tree = with_part(alloc, this, TypedPart::Field(member.class, member.place))?;
-    Typed::of(alloc, at, kind, role_of(sets), tree)
+    Ok(Typed {
+        at,
+        kind,
+        role: role_of(sets),
+        tree,
+    })
 }
 
 fn meant(
@@ -145,9 +151,10 @@ fn meant(
     }
 }
 
-/// What a name that stands alone means: a local, a field of the class whose code it is or of an ancestor, or a class, an
-/// object or a word of the platform before a dot, looked for in this order. `UnknownName` where it means nothing, or a
-/// field of `this` where there is none; `NotVisible` where it is a private field of an ancestor; `DoubleRefused`.
+/// What a name that stands alone means: a local; a field of `this`, where there is one; a static of the class whose code
+/// it is or of an ancestor; before a dot a word of the platform, a built-in type, a class or an object, looked for in
+/// this order. `UnknownName` where it means nothing, `NotVisible` where it is a private field or static of an ancestor;
+/// `DoubleRefused`.
 pub fn name_in(
     alloc: Global,
     setting: &Setting,

@@ -6,35 +6,41 @@ ghost use Rattle.name_meanings.specs.Parts as spec;
 use apex_list::{Boxed, Items};
 use apex_num::NoMemory;
 use std::alloc::Global;
-use typed_trees::{TypedExpr, TypedPart};
+use typed_program::{TypedExpr, TypedPart};
 
-fn first_part(alloc: Global, head: Boxed<TypedExpr>, part: TypedPart) -> Result<TypedExpr, NoMemory>
+fn first_part(
+    alloc: Global,
+    head: Boxed<TypedExpr>,
+    part: TypedPart,
+) -> Result<Boxed<TypedExpr>, NoMemory>
     ensures { IfOk result (λ t. t ≡ spec.first_part head part) }
 {
     let mut parts = Items::new(alloc);
     parts.push(part)?;
-    Ok(TypedExpr::Postfix(head, parts))
+    Boxed::new(alloc, TypedExpr::Postfix(head, parts))
 }
 
 fn next_part(
+    alloc: Global,
     head: Boxed<TypedExpr>,
     parts: Items<TypedPart>,
     part: TypedPart,
-) -> Result<TypedExpr, NoMemory>
+) -> Result<Boxed<TypedExpr>, NoMemory>
     ensures { IfOk result (λ t. t ≡ spec.next_part head parts part) }
 {
     let mut parts = parts;
     parts.push(part)?;
-    Ok(TypedExpr::Postfix(head, parts))
+    Boxed::new(alloc, TypedExpr::Postfix(head, parts))
 }
 
-fn grown(alloc: Global, tree: TypedExpr, part: TypedPart) -> Result<TypedExpr, NoMemory>
-    ensures { IfOk result (λ t. t ≡ spec.with_part tree part) }
+fn boxed_first(
+    alloc: Global,
+    tree: TypedExpr,
+    part: TypedPart,
+) -> Result<Boxed<TypedExpr>, NoMemory>
+    ensures { IfOk result (λ t. t ≡ spec.first_part tree part) }
 {
-    match tree {
-        TypedExpr::Postfix(head, parts) => next_part(head, parts, part),
-        tree => first_part(alloc, Boxed::new(alloc, tree)?, part),
-    }
+    first_part(alloc, Boxed::new(alloc, tree)?, part)
 }
 
 /// A value with one part more behind it.
@@ -42,8 +48,11 @@ pub fn with_part(
     alloc: Global,
     tree: Boxed<TypedExpr>,
     part: TypedPart,
-) -> Result<TypedExpr, NoMemory>
+) -> Result<Boxed<TypedExpr>, NoMemory>
     ensures { IfOk result (λ t. t ≡ spec.with_part tree part) }
 {
-    grown(alloc, tree.into_value(), part)
+    match tree.into_value() {
+        TypedExpr::Postfix(head, parts) => next_part(alloc, head, parts, part),
+        tree => boxed_first(alloc, tree, part),
+    }
 }

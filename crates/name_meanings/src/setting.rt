@@ -1,7 +1,6 @@
 // Where code stands.
 
-use class_heads::ClassHeads;
-use class_members::MemberTables;
+use class_tables::{ClassHeads, MemberTables};
 use record_words::RecordWords;
 use type_names::TypeNames;
 

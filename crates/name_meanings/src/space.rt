@@ -5,11 +5,11 @@ ghost use Rattle.type_names.specs.TypeTrees.{known};
 ghost use Rattle.type_names.specs.Walks.{Tells};
 ghost use Rattle.name_meanings.specs.Spaces as spec;
 
-use apex_schema::FaultWord;
 use apex_syntax::Word;
 use apex_text::Name;
+use fault_words::FaultWord;
 use static_types::{TypeName, type_name};
-use type_names::{TreeFault, TypeHead, TypeNames, type_head};
+use type_names::{TreeFault, TypeHead, TypeNames};
 use typed_values::Space;
 
 /// A word of the platform, in small letters, and what it stands for.
@@ -95,6 +95,22 @@ fn head_space(head: TypeHead, at: usize) -> Result<Space, TreeFault>
     }
 }
 
+// Before a dot a class comes before an object.
+fn before_dot(names: &TypeNames, name: &Name) -> Option<TypeHead>
+    ensures { result ≡ spec.before_dot (known names.now) name.now }
+{
+    if let Some(named) = type_name(name) {
+        return Some(TypeHead::Named(named));
+    }
+    if let Some(n) = names.classes.place(name) {
+        return Some(TypeHead::Class(n));
+    }
+    match names.objects.place(name) {
+        Some(n) => Some(TypeHead::Record(n)),
+        None => None,
+    }
+}
+
 /// What a name that is no value stands for before a dot. `UnknownName` where it stands for nothing, and `DoubleRefused`.
 pub fn space_named(names: &TypeNames, word: &Word) -> Result<Space, TreeFault>
     ensures { Tells (spec.space_named (known names.now) word.now) result }
@@ -102,7 +118,7 @@ pub fn space_named(names: &TypeNames, word: &Word) -> Result<Space, TreeFault>
     if let Some(space) = platform_word(&word.name) {
         return Ok(space);
     }
-    match type_head(names, &word.name) {
+    match before_dot(names, &word.name) {
         Some(head) => head_space(head, word.span.from),
         None => Err(TreeFault::new(FaultWord::UnknownName, word.span.from)),
     }

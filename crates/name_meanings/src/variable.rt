@@ -7,7 +7,7 @@ use apex_list::Boxed;
 use apex_num::NoMemory;
 use static_types::{Primitive, ValueType};
 use std::alloc::Global;
-use typed_trees::TriggerVariable;
+use typed_program::TriggerVariable;
 
 /// The name of a variable, in small letters.
 #[derive(Clone, Copy, Drop)]

@@ -28,7 +28,7 @@ fn main(rt: HostRuntime) -> anyhow::Result<ExitCode> {
         return Ok(ExitCode::FAILURE);
     };
     let elapsed = start.elapsed(&rt)?.as_nanos();
-    let most = depth(&unit);
+    let most = depth(unit.get());
     if timed {
         println!(rt; "{elapsed} {most}")?;
     } else {

@@ -2,8 +2,9 @@
 use Rattle.std.specs.Prelude.{ℕ, ℤ, List, ◌++◌, codes}
 use Rattle.std.specs.Fmt.{signed_decimal}
 use Rattle.apex_num.specs.Ids.{long_id}
-use Rattle.apex_schema.specs.declared.request.Op.{Op}
-use Rattle.apex_schema.specs.declared.request.Op.TheVariants as Op'
+use Rattle.apex_requests.specs.declared.request.Op.{Op}
+use Rattle.apex_requests.specs.declared.request.Op.TheVariants as Op'
+use Rattle.builtin_table.specs.Answers.{message_of, divide_by_zero, out_of_range, null_object, out_of_bounds, invalid_id, invalid_number, invalid_date, invalid_conversion}
 use Rattle.builtin_table.specs.declared.exception.ExceptionClass.{ExceptionClass}
 use Rattle.builtin_table.specs.declared.exception.ExceptionClass.TheVariants as Class
 use Rattle.platform_errors.specs.declared.record.RecordError.{RecordError}
@@ -85,9 +86,9 @@ abbrev pub failed : Op → ℤ → RecordError → List ℕ
 failed op row error = op_name op ++ (codes " failed. First exception on row " ++ at_row row error)
 
 abbrev pub message : Thrown → List ℕ
-message Throws.DivideByZero = codes "Divide by 0"
-message Throws.OutOfRange = codes "Out of range"
-message Throws.NullObject = codes "Attempt to de-reference a null object"
+message Throws.DivideByZero = message_of divide_by_zero
+message Throws.OutOfRange = message_of out_of_range
+message Throws.NullObject = message_of null_object
 message (Throws.OutOfBounds n) = codes "List index out of bounds: " ++ signed_decimal n
 message (Throws.DuplicateId id) = codes "Duplicate id in list: " ++ long_id id
 message Throws.DuplicateRecord = codes "Duplicate record in list"
@@ -97,10 +98,10 @@ message Throws.InvalidLimit = codes "Invalid limit"
 message (Throws.NotQueried object field) = not_queried object field
 message Throws.ReadOnly = codes "Record is read-only"
 message Throws.NoErrors = codes "SObject row does not allow errors"
-message (Throws.InvalidId text) = codes "Invalid id: " ++ text
-message Throws.Position = codes "Position out of bounds"
-message (Throws.InvalidNumber text) = codes "Invalid number: " ++ text
-message Throws.InvalidDate = codes "Invalid date"
-message Throws.InvalidConversion = codes "Invalid conversion"
+message (Throws.InvalidId text) = message_of (invalid_id text)
+message Throws.Position = message_of out_of_bounds
+message (Throws.InvalidNumber text) = message_of (invalid_number text)
+message Throws.InvalidDate = message_of invalid_date
+message Throws.InvalidConversion = message_of invalid_conversion
 message Throws.InvalidSavepoint = codes "Invalid savepoint"
 message (Throws.Dml op row error) = failed op row error

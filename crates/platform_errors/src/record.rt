@@ -4,7 +4,7 @@ ghost use Rattle.std.specs.Prelude.{◌≡◌, ◌++◌, codes, IfOk};
 ghost use Rattle.platform_errors.specs.Messages as spec;
 
 use apex_num::{NoMemory, Text};
-use apex_schema::SaveError;
+use apex_requests::SaveError;
 use std::alloc::{AllocError, Global};
 
 /// What is wrong with a record that is saved. Fields, triggers and classes are named as they were declared.
@@ -14,7 +14,7 @@ pub enum RecordError {
     IdInInsert,
     /// A record to update or delete has no Id.
     NoId,
-    /// There is no row of this Id, or the user doesn't see it.
+    /// There is no row of this Id.
     NoSuchRow,
     /// The user may not change the row.
     NoAccess,

@@ -2,7 +2,7 @@
 
 use super::*;
 use apex_num::{Id, Text, read_id};
-use apex_schema::Op;
+use apex_requests::Op;
 use std::alloc::AllocError;
 use std::test::Fail;
 

@@ -7,13 +7,13 @@ ghost use Rattle.platform_errors.specs.Messages as spec;
 
 use crate::record::{RecordError, joined};
 use apex_num::{Cell, Id, NoMemory, Text};
-use apex_schema::Op;
+use apex_requests::Op;
 use builtin_table::{ExceptionClass, text_of};
 use std::alloc::{AllocError, Global};
 
 /// An exception that the platform throws. `LimitException` and `AssertException`, which have other messages, aren't among
 /// them. Positions count from 0.
-#[derive(Debug, Drop)]
+#[derive(Drop)]
 pub enum Thrown {
     /// A quotient or a rest by 0.
     DivideByZero,

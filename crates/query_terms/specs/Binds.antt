@@ -1,17 +1,17 @@
 -- Binds of queries (docs/language.md, "Queries in code").
 use Rattle.std.specs.Prelude.{ℕ, List, Option, None, Some}
-use Rattle.apex_schema.specs.declared.reply.FaultWord.TheVariants.{BadQuery}
-use Rattle.class_heads.specs.declared.head.ClassHead.{ClassHead}
+use Rattle.fault_words.specs.declared.fault.FaultWord.TheVariants.{BadQuery}
+use Rattle.class_tables.specs.declared.head.ClassHead.{ClassHead}
 use Rattle.static_types.specs.declared.kind.Primitive.{Primitive}
 use Rattle.static_types.specs.declared.kind.ValueType.{ValueType}
 use Rattle.static_types.specs.declared.kind.ValueType.TheOpen.{ValueType-F}
 use Rattle.static_types.specs.declared.kind.ValueType.TheVariants as V
 use Rattle.static_types.specs.declared.kind.ValueType.TheViews.{out-ValueType}
 use Rattle.type_names.specs.Walks.{Walk, Gives, wrong}
-use Rattle.typed_trees.specs.declared.expr.Conversion.{Conversion}
-use Rattle.typed_trees.specs.declared.expr.Conversion.TheVariants.{Same}
-use Rattle.typed_trees.specs.declared.expr.TypedBind.{TypedBind}
-use Rattle.typed_trees.specs.declared.expr.TypedBind.TheVariants.{One, Many}
+use Rattle.typed_program.specs.declared.expr.Conversion.{Conversion}
+use Rattle.typed_program.specs.declared.expr.Conversion.TheVariants.{Same}
+use Rattle.typed_program.specs.declared.expr.TypedBind.{TypedBind}
+use Rattle.typed_program.specs.declared.expr.TypedBind.TheVariants.{One, Many}
 use Rattle.typed_values.specs.declared.typed.Kind.{Kind}
 use Rattle.typed_values.specs.declared.typed.Kind.TheVariants as K
 use Rattle.typed_values.specs.declared.typed.Typed.{Typed}

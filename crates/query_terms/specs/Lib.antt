@@ -1,3 +1,4 @@
+pub mod Besides
 pub mod Sources
 pub mod Paths
 pub mod Values

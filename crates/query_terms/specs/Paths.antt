@@ -1,9 +1,9 @@
 -- Paths of queries (docs/language.md, "Queries in code").
 use Rattle.std.specs.Prelude.{ℕ, Bool, true, cond, List, [], ◌∷◌, ◌++◌, Option, None, Some}
-use Rattle.apex_schema.specs.declared.query.CondOp.{CondOp}
-use Rattle.apex_schema.specs.declared.query.CondOp.TheVariants as O
-use Rattle.apex_schema.specs.declared.query.SortKey.{SortKey}
-use Rattle.apex_schema.specs.declared.reply.FaultWord.TheVariants.{BadQuery}
+use Rattle.apex_rows.specs.declared.query.CondOp.{CondOp}
+use Rattle.apex_rows.specs.declared.query.CondOp.TheVariants as O
+use Rattle.apex_rows.specs.declared.query.SortKey.{SortKey}
+use Rattle.fault_words.specs.declared.fault.FaultWord.TheVariants.{BadQuery}
 use Rattle.apex_schema.specs.declared.schema.Field.{Field}
 use Rattle.apex_schema.specs.declared.schema.Object.{Object}
 use Rattle.apex_syntax.specs.declared.query.CompareOp.{CompareOp}

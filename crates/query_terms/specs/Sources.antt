@@ -1,9 +1,9 @@
 -- What a query reads, and what it gives (docs/language.md, "Queries in code").
 use Rattle.std.specs.Prelude.{ℕ, cond, List, Option, None, Some}
-use Rattle.apex_schema.specs.Names.{place_of}
-use Rattle.apex_schema.specs.declared.query.Query.{Query}
-use Rattle.apex_schema.specs.declared.query.Query.TheViews.{out-Query}
-use Rattle.apex_schema.specs.declared.reply.FaultWord.TheVariants.{BadQuery}
+use Rattle.schema_names.specs.Names.{place_of}
+use Rattle.apex_rows.specs.declared.query.Query.{Query}
+use Rattle.apex_rows.specs.declared.query.Query.TheViews.{out-Query}
+use Rattle.fault_words.specs.declared.fault.FaultWord.TheVariants.{BadQuery}
 use Rattle.apex_schema.specs.declared.schema.Object.{Object}
 use Rattle.apex_syntax.specs.declared.word.Word.{Word}
 use Rattle.query_terms.specs.declared.source.ChildSource.{ChildSource}
@@ -13,9 +13,9 @@ use Rattle.record_words.specs.Words.{word_of}
 use Rattle.static_types.specs.declared.kind.Primitive.TheVariants as P
 use Rattle.static_types.specs.declared.kind.ValueType.TheVariants as V
 use Rattle.type_names.specs.Walks.{Walk, Gives, wrong}
-use Rattle.typed_trees.specs.declared.expr.TypedBind.{TypedBind}
-use Rattle.typed_trees.specs.declared.expr.TypedExpr.{TypedExpr}
-use Rattle.typed_trees.specs.declared.expr.TypedExpr.TheVariants as T
+use Rattle.typed_program.specs.declared.expr.TypedBind.{TypedBind}
+use Rattle.typed_program.specs.declared.expr.TypedExpr.{TypedExpr}
+use Rattle.typed_program.specs.declared.expr.TypedExpr.TheVariants as T
 use Rattle.typed_values.specs.declared.typed.Kind.{Kind}
 use Rattle.typed_values.specs.declared.typed.Kind.TheVariants.{Is}
 use Rattle.typed_values.specs.declared.typed.Role.TheVariants as R
@@ -40,11 +40,8 @@ children_named objects object w = children_of (word_of objects (record { object 
 abbrev pub listed : ℕ → Kind
 listed object = Is (V.List (V.Record object))
 
-abbrev pub query_tree : Query → List TypedBind → TypedExpr
-query_tree query binds = T.Query query binds
-
 -- COUNT() is a number, and everything else a list that may stand for its only record
 abbrev pub query_value : ℕ → Query → List TypedBind → Typed
 query_value at query binds =
-    cond (out-Query query).counted (plain at (Is (V.Primitive P.Integer)) (query_tree query binds))
-    (typed at (listed (out-Query query).object) R.Query (query_tree query binds))
+    cond (out-Query query).counted (plain at (Is (V.Primitive P.Integer)) (T.Query query binds))
+    (typed at (listed (out-Query query).object) R.Query (T.Query query binds))

@@ -3,12 +3,12 @@ use Rattle.std.specs.Prelude.{ℕ, ℤ, pos, neg_ℤ, ◌*ℤ◌, Bool, cond, Li
 use Rattle.std.specs.Str.{is_utf8}
 use Rattle.apex_num.specs.declared.cell.Cell.{Cell}
 use Rattle.apex_num.specs.declared.cell.Cell.TheVariants as C
-use Rattle.apex_schema.specs.declared.query.Term.{Term}
-use Rattle.apex_schema.specs.declared.query.Term.TheVariants.{Given}
-use Rattle.apex_schema.specs.declared.reply.FaultWord.TheVariants.{BadQuery}
+use Rattle.apex_rows.specs.declared.query.Term.{Term}
+use Rattle.apex_rows.specs.declared.query.Term.TheVariants.{Given}
+use Rattle.fault_words.specs.declared.fault.FaultWord.TheVariants.{BadQuery}
 use Rattle.apex_syntax.specs.declared.query.NumberTree.{NumberTree}
 use Rattle.apex_syntax.specs.declared.query.NumberTree.TheVariants as N
-use Rattle.builtin_table.specs.Meanings.{id_value}
+use Rattle.apex_num.specs.Ids.{id_value}
 use Rattle.number_methods.specs.Values.{decimal_fits}
 use Rattle.static_types.specs.declared.kind.Primitive.{Primitive}
 use Rattle.static_types.specs.declared.kind.Primitive.TheVariants as P

@@ -5,12 +5,12 @@ ghost use Rattle.static_types.specs.declared.kind.ValueType.TheViews.{out-ValueT
 ghost use Rattle.type_names.specs.Walks.{Comes, Tells};
 ghost use Rattle.query_terms.specs.Binds as spec;
 
-use apex_schema::FaultWord;
-use class_heads::ClassHeads;
+use class_tables::ClassHeads;
+use fault_words::FaultWord;
 use static_types::{Primitive, ValueType};
 use std::alloc::Global;
 use type_names::{TreeFault, WalkFault};
-use typed_trees::{Conversion, TypedBind};
+use typed_program::{Conversion, TypedBind};
 use typed_values::{Kind, Typed, conversion, converted};
 
 /// The bind of a value where a primitive of this type is due, with its conversion; the colon stands at this byte.
@@ -27,7 +27,7 @@ pub fn one_bind(
     match conversion(lines, &value.kind, &ValueType::Primitive(to)) {
         Some(how) => {
             let tree = converted(alloc, how, value.tree)?;
-            Ok(TypedBind::One(tree.into_value()))
+            Ok(TypedBind::One(tree))
         }
         None => Err(TreeFault::new(FaultWord::BadQuery, at).into()),
     }
@@ -80,7 +80,7 @@ pub fn list_bind(
     ensures { Tells (spec.list_bind lines.now.heads to at value) result }
 {
     match items_how(lines, &value.kind, to) {
-        Some(how) => Ok(TypedBind::Many(how, value.tree.into_value())),
+        Some(how) => Ok(TypedBind::Many(how, value.tree)),
         None => Err(TreeFault::new(FaultWord::BadQuery, at)),
     }
 }

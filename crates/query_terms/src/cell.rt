@@ -6,8 +6,9 @@ ghost use Rattle.query_terms.specs.Values as spec;
 
 use apex_list::Items;
 use apex_num::{Cell, Dec, Id, NoMemory, Text, read_id};
-use apex_schema::{FaultWord, Term};
+use apex_rows::Term;
 use apex_syntax::NumberTree;
+use fault_words::FaultWord;
 use static_types::Primitive;
 use std::alloc::Global;
 use type_names::TreeFault;

@@ -1,26 +1,28 @@
 // Queries as far as they are read.
 
-ghost use Rattle.std.specs.Prelude.{◌≡◌, IfOk};
+ghost use Rattle.std.specs.Prelude.{◌≡◌, IfOk, OnOk};
 ghost use Rattle.type_names.specs.Walks.{Comes, Tells, all};
+ghost use Rattle.typed_values.specs.Alterations.{Alters};
+ghost use Rattle.query_terms.specs.Besides.{Adds};
 ghost use Rattle.query_terms.specs.OpenQueries as spec;
 
 use crate::bind::{list_bind, one_bind};
-use crate::cell::given;
 use crate::path::sort_key;
-use apex_list::Items;
-use apex_num::{Cell, NoMemory};
-use apex_schema::{Cond, FaultWord, Path, Query, SortKey, SubQuery, Term, Terms};
+use apex_list::{Boxed, Items};
+use apex_num::NoMemory;
+use apex_rows::{Cond, Path, Query, SortKey, SubQuery, Term, Terms};
 use apex_syntax::OrderTree;
-use class_heads::ClassHeads;
+use class_tables::ClassHeads;
+use fault_words::FaultWord;
 use record_words::RecordWords;
 use static_types::Primitive;
 use std::alloc::Global;
 use type_names::{TreeFault, WalkFault};
-use typed_trees::TypedBind;
+use typed_program::TypedBind;
 use typed_values::Typed;
 
-/// A query as far as it is read, and the binds so far, in the order of the text.
-#[derive(Debug, Drop)]
+/// A query as far as it is read.
+#[derive(Drop)]
 pub struct OpenQuery {
     pub object: usize,
     pub counted: bool,
@@ -30,12 +32,11 @@ pub struct OpenQuery {
     pub keys: Items<SortKey>,
     pub limit: Option<Term>,
     pub offset: Option<Term>,
-    pub binds: Items<TypedBind>,
 }
 
 /// A query of an object with nothing behind its `FROM`, which selects nothing yet; takes no memory.
-pub fn opened(alloc: Global, object: usize, binds: Items<TypedBind>) -> OpenQuery
-    ensures { result ≡ spec.opened object binds }
+pub fn opened(alloc: Global, object: usize) -> OpenQuery
+    ensures { result ≡ spec.opened object }
 {
     OpenQuery {
         object,
@@ -46,100 +47,56 @@ pub fn opened(alloc: Global, object: usize, binds: Items<TypedBind>) -> OpenQuer
         keys: Items::new(alloc),
         limit: None,
         offset: None,
-        binds,
     }
 }
 
-/// The query without the binds, and these.
-pub fn parted(alloc: Global, so_far: OpenQuery) -> (OpenQuery, Items<TypedBind>)
-    ensures { result ≡ spec.parted so_far }
+/// `COUNT()`.
+pub fn counting(so_far: &mut OpenQuery)
+    ensures { so_far.new ≡ spec.counting so_far.old }
 {
-    let OpenQuery {
-        object,
-        counted,
-        paths,
-        children,
-        cond,
-        keys,
-        limit,
-        offset,
-        binds,
-    } = so_far;
-    let rest = OpenQuery {
-        object,
-        counted,
-        paths,
-        children,
-        cond,
-        keys,
-        limit,
-        offset,
-        binds: Items::new(alloc),
-    };
-    (rest, binds)
-}
-
-/// The query with `COUNT()`.
-pub fn counting(so_far: OpenQuery) -> OpenQuery
-    ensures { result ≡ spec.counting so_far }
-{
-    let mut so_far = so_far;
     so_far.counted = true;
-    so_far
 }
 
-/// The query with one path more.
-pub fn with_path(so_far: OpenQuery, path: Path) -> Result<OpenQuery, NoMemory>
-    ensures { IfOk result (λ s. s ≡ spec.with_path so_far path) }
+/// One path more.
+pub fn with_path(so_far: &mut OpenQuery, path: Path) -> Result<(), NoMemory>
+    ensures { OnOk result (so_far.new ≡ spec.with_path so_far.old path) }
 {
-    let mut so_far = so_far;
     so_far.paths.push(path)?;
-    Ok(so_far)
+    Ok(())
 }
 
-/// The query with one subquery more, over the children's field with this number, and all binds up to its end.
+/// One subquery more, over the children's field with this number.
 pub fn with_child(
-    so_far: OpenQuery,
+    so_far: &mut OpenQuery,
     lookup: usize,
-    query: Query,
-    binds: Items<TypedBind>,
-) -> Result<OpenQuery, NoMemory>
-    ensures { IfOk result (λ s. s ≡ spec.with_child so_far lookup query binds) }
+    query: Boxed<Query>,
+) -> Result<(), NoMemory>
+    ensures { OnOk result (so_far.new ≡ spec.with_child so_far.old lookup query) }
 {
-    let mut so_far = so_far;
+    let query = query.into_value();
     so_far.children.push(SubQuery { lookup, query })?;
-    so_far.binds = binds;
-    Ok(so_far)
+    Ok(())
 }
 
-/// The query with its condition, and all binds up to its end.
-pub fn with_cond(so_far: OpenQuery, cond: Cond, binds: Items<TypedBind>) -> OpenQuery
-    ensures { result ≡ spec.with_cond so_far cond binds }
+/// The condition.
+pub fn with_cond(so_far: &mut OpenQuery, cond: Boxed<Cond>)
+    ensures { so_far.new ≡ spec.with_cond so_far.old cond }
 {
-    let mut so_far = so_far;
-    so_far.cond = cond;
-    so_far.binds = binds;
-    so_far
+    so_far.cond = cond.into_value();
 }
 
-/// The query with its limit, and all binds up to its end.
-pub fn with_limit(so_far: OpenQuery, limit: Term, binds: Items<TypedBind>) -> OpenQuery
-    ensures { result ≡ spec.with_limit so_far limit binds }
+/// The limit.
+pub fn with_limit(so_far: &mut OpenQuery, limit: Term)
+    ensures { so_far.new ≡ spec.with_limit so_far.old limit }
 {
-    let mut so_far = so_far;
     so_far.limit = Some(limit);
-    so_far.binds = binds;
-    so_far
 }
 
-/// The query with its offset, and all binds up to its end.
-pub fn with_offset(so_far: OpenQuery, offset: Term, binds: Items<TypedBind>) -> OpenQuery
-    ensures { result ≡ spec.with_offset so_far offset binds }
+/// The offset.
+pub fn with_offset(so_far: &mut OpenQuery, offset: Term)
+    ensures { so_far.new ≡ spec.with_offset so_far.old offset }
 {
-    let mut so_far = so_far;
     so_far.offset = Some(offset);
-    so_far.binds = binds;
-    so_far
 }
 
 fn sort_keys(
@@ -158,47 +115,43 @@ fn sort_keys(
     Ok(keys)
 }
 
-fn with_keys(so_far: OpenQuery, keys: Items<SortKey>) -> OpenQuery
-    ensures { result ≡ spec.with_keys so_far keys }
-{
-    let mut so_far = so_far;
-    so_far.keys = keys;
-    so_far
-}
-
 fn ordered(
     alloc: Global,
     words: &RecordWords,
-    so_far: OpenQuery,
     order: &OrderTree,
-) -> Result<OpenQuery, WalkFault>
-    ensures { Comes (spec.ordered words.now.schema.now.objects so_far order.now) result }
+    so_far: &mut OpenQuery,
+) -> Result<(), WalkFault>
+    ensures { Alters (spec.ordered words.now.schema.now.objects so_far.old order.now) result so_far.new }
 {
     if so_far.counted {
         return Err(TreeFault::new(FaultWord::BadQuery, order.span.from).into());
     }
-    let keys = sort_keys(alloc, words, so_far.object, order)?;
-    Ok(with_keys(so_far, keys))
+    so_far.keys = sort_keys(alloc, words, so_far.object, order)?;
+    Ok(())
 }
 
-/// The query with its order. `BadQuery` at `ORDER` behind `COUNT()`, and at a path that leads to no field.
+/// The order. `BadQuery` at `ORDER` behind `COUNT()`, and at a path that leads to no field.
 pub fn with_order(
     alloc: Global,
     words: &RecordWords,
-    so_far: OpenQuery,
     order: &Option<OrderTree>,
-) -> Result<OpenQuery, WalkFault>
-    ensures { Comes (spec.with_order words.now.schema.now.objects so_far order.now) result }
+    so_far: &mut OpenQuery,
+) -> Result<(), WalkFault>
+    ensures { Alters (spec.with_order words.now.schema.now.objects so_far.old order.now) result so_far.new }
 {
     match order {
-        Some(order) => ordered(alloc, words, so_far, order),
-        None => Ok(so_far),
+        Some(order) => ordered(alloc, words, order, so_far),
+        None => Ok(()),
     }
 }
 
-/// The query as it is, and its binds.
-pub fn closed_query(so_far: OpenQuery, locked: bool) -> (Query, Items<TypedBind>)
-    ensures { result ≡ spec.closed_query so_far locked }
+/// The query as it is.
+pub fn closed_query(
+    alloc: Global,
+    so_far: OpenQuery,
+    locked: bool,
+) -> Result<Boxed<Query>, NoMemory>
+    ensures { IfOk result (λ query. query ≡ spec.closed_query so_far locked) }
 {
     let OpenQuery {
         object,
@@ -209,66 +162,52 @@ pub fn closed_query(so_far: OpenQuery, locked: bool) -> (Query, Items<TypedBind>
         keys,
         limit,
         offset,
-        binds,
     } = so_far;
-    let query = Query {
-        object,
-        counted,
-        paths,
-        children,
-        cond,
-        keys,
-        limit,
-        offset,
-        locked,
-    };
-    (query, binds)
+    Boxed::new(
+        alloc,
+        Query {
+            object,
+            counted,
+            paths,
+            children,
+            cond,
+            keys,
+            limit,
+            offset,
+            locked,
+        },
+    )
 }
 
-/// The term of a written value, which stands at this byte, beside the binds; `BadQuery` at it where it is no cell of the
-/// type that is due.
-pub fn written(
-    cell: Option<Cell>,
-    at: usize,
-    binds: Items<TypedBind>,
-) -> Result<(Term, Items<TypedBind>), TreeFault>
-    ensures { Tells (spec.written cell at binds) result }
-{
-    let term = given(cell, at)?;
-    Ok((term, binds))
-}
-
-/// The term of a bind of one value, and the binds with this one, as `one_bind`.
+/// The term of a bind of one value, which is one bind more, as `one_bind`.
 pub fn bound(
     alloc: Global,
     lines: &ClassHeads,
     to: Primitive,
     at: usize,
     value: Typed,
-    binds: Items<TypedBind>,
-) -> Result<(Term, Items<TypedBind>), WalkFault>
-    ensures { Comes (spec.bound lines.now.heads to at value binds) result }
+    binds: &mut Items<TypedBind>,
+) -> Result<Term, WalkFault>
+    ensures { Adds (spec.bound lines.now.heads to at value binds.old) result binds.new }
 {
-    let mut binds = binds;
     let n = binds.len();
     let bind = one_bind(alloc, lines, to, at, value)?;
     binds.push(bind)?;
-    Ok((Term::Bound(n), binds))
+    Ok(Term::Bound(n))
 }
 
-/// The terms of a bind behind `IN`, and the binds with this one, as `list_bind`.
+/// The terms of a bind behind `IN`, which is one bind more, as `list_bind`.
 pub fn bound_list(
     lines: &ClassHeads,
     to: Primitive,
     at: usize,
     value: Typed,
-    binds: Items<TypedBind>,
-) -> Result<(Terms, Items<TypedBind>), WalkFault>
-    ensures { Comes (spec.bound_list lines.now.heads to at value binds) result }
+    binds: &mut Items<TypedBind>,
+) -> Result<Terms, WalkFault>
+    ensures { Adds (spec.bound_list lines.now.heads to at value binds.old) result binds.new }
 {
-    let mut binds = binds;
     let n = binds.len();
     let bind = list_bind(lines, to, at, value)?;
     binds.push(bind)?;
-    Ok((Terms::Bound(n), binds))
+    Ok(Terms::Bound(n))
 }

@@ -7,8 +7,10 @@ ghost use Rattle.query_terms.specs.Paths as spec;
 
 use apex_list::Items;
 use apex_num::NoMemory;
-use apex_schema::{CondOp, FaultWord, Field, Object, Path, SortKey};
+use apex_rows::{CondOp, Path, SortKey};
+use apex_schema::{Field, Object};
 use apex_syntax::{CompareOp, KeyTree, PathTree, Word};
+use fault_words::FaultWord;
 use name_meanings::{cell_type, field_in, parent_object};
 use record_words::{RecordKey, RecordWord, RecordWords};
 use static_types::Primitive;
@@ -16,14 +18,14 @@ use std::alloc::Global;
 use type_names::{TreeFault, WalkFault};
 
 /// The field that a path leads to, and the type of what it holds.
-#[derive(Debug, Drop)]
+#[derive(Drop)]
 pub struct FieldPath {
     pub path: Path,
     pub kind: Primitive,
 }
 
 // Where a path has come to.
-#[derive(Clone, Copy, Debug, PartialEq, Eq, Drop)]
+#[derive(Clone, Copy, Drop)]
 pub enum Place {
     /// A record of this object.
     Record(usize),
@@ -32,7 +34,7 @@ pub enum Place {
 }
 
 // Where a name leads.
-#[derive(Clone, Copy, Debug, PartialEq, Eq, Drop)]
+#[derive(Clone, Copy, Drop)]
 pub enum Lead {
     /// Over a field to a record of an object.
     Parent(usize, usize),

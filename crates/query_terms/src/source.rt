@@ -6,17 +6,19 @@ ghost use Rattle.query_terms.specs.Sources as spec;
 
 use apex_list::{Boxed, Items};
 use apex_num::NoMemory;
-use apex_schema::{FaultWord, Places, Query};
+use apex_rows::Query;
 use apex_syntax::Word;
+use fault_words::FaultWord;
 use record_words::{RecordKey, RecordWord, RecordWords};
+use schema_names::Places;
 use static_types::{Primitive, ValueType};
 use std::alloc::Global;
 use type_names::{TreeFault, WalkFault};
-use typed_trees::{TypedBind, TypedExpr};
+use typed_program::{TypedBind, TypedExpr};
 use typed_values::{Kind, Role, Typed};
 
 /// The records under a record: the number of their object, and that of its field that names the record.
-#[derive(Clone, Copy, Debug, PartialEq, Eq, Drop)]
+#[derive(Clone, Copy, Drop)]
 pub struct ChildSource {
     pub object: usize,
     pub lookup: usize,
@@ -63,29 +65,20 @@ fn listed(alloc: Global, object: usize) -> Result<Kind, NoMemory>
     Ok(Kind::Is(ValueType::List(item)))
 }
 
-fn query_tree(alloc: Global, query: Query, binds: Items<TypedBind>) -> Result<TypedExpr, NoMemory>
-    ensures { IfOk result (λ t. t ≡ spec.query_tree query binds) }
-{
-    Ok(TypedExpr::Query(Boxed::new(alloc, query)?, binds))
-}
-
 /// The value of a query, which begins at this byte: an Integer for `COUNT()`, otherwise a list of records.
 pub fn query_value(
     alloc: Global,
     at: usize,
-    query: Query,
+    query: Boxed<Query>,
     binds: Items<TypedBind>,
 ) -> Result<Typed, NoMemory>
     ensures { IfOk result (λ t. t ≡ spec.query_value at query binds) }
 {
-    let counted = query.counted;
-    let object = query.object;
-    let tree = query_tree(alloc, query, binds)?;
-    if counted {
+    if query.get().counted {
         let kind = Kind::Is(ValueType::Primitive(Primitive::Integer));
-        Typed::plain(alloc, at, kind, tree)
+        Typed::plain(alloc, at, kind, TypedExpr::Query(query, binds))
     } else {
-        let kind = listed(alloc, object)?;
-        Typed::of(alloc, at, kind, Role::Query, tree)
+        let kind = listed(alloc, query.get().object)?;
+        Typed::of(alloc, at, kind, Role::Query, TypedExpr::Query(query, binds))
     }
 }

@@ -3,12 +3,11 @@ use Rattle.std.proofs.Common.{◌≡◌, ℕ, zero, suc, ◌+◌, ◌<◌, ◌�
 use Rattle.std.specs.Prelude.{slice_get}
 use Rattle.platform_errors.specs.declared.record.RecordError.{RecordError}
 use Rattle.platform_errors.specs.declared.record.RecordError.TheVariants as Error
-use Rattle.apex_schema.specs.declared.row.Row.{Row}
-use Rattle.apex_schema.specs.Plans.{or_later}
+use Rattle.apex_rows.specs.declared.row.Row.{Row}
 use Rattle.apex_schema.specs.declared.rule.Rule.{Rule}
 use Rattle.apex_schema.specs.declared.schema.RuleHead.{RuleHead}
-use Rattle.apex_schema.specs.Rules.{rule_value}
-use Rattle.save_meaning.specs.Drafts.{when, broken}
+use Rattle.row_meaning.specs.Rules.{rule_value}
+use Rattle.save_meaning.specs.Drafts.{or_later, when, broken}
 
 module _ (row : Row) where
   -- rules from number i on, with a head or with none

@@ -8,7 +8,9 @@ ghost use Rattle.record_drafts.specs.Known.{known_at};
 
 use apex_list::Items;
 use apex_num::{Cell, Id, NoMemory, read_id};
-use apex_schema::{Field, FieldKind, Object, Row, SaveRow};
+use apex_requests::SaveRow;
+use apex_rows::Row;
+use apex_schema::{Field, FieldKind, Object};
 use platform_errors::RecordError;
 use record_ids::user_id;
 use save_meaning::Draft;

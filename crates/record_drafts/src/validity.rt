@@ -1,15 +1,15 @@
 // What is found wrong with a new row.
 
 ghost use Rattle.std.specs.Prelude.{◌≡◌, IfOk};
-ghost use Rattle.apex_schema.specs.Conds.{cell_of};
-ghost use Rattle.apex_schema.specs.Rules as rules;
+ghost use Rattle.row_meaning.specs.Conds.{cell_of};
+ghost use Rattle.row_meaning.specs.Rules as rules;
 ghost use Rattle.save_meaning.specs.Drafts as spec;
 
 use apex_num::{Cell, NoMemory};
-use apex_schema::{Field, FieldKind, Object, Row, Rule, RuleHead};
+use apex_rows::Row;
+use apex_schema::{Field, FieldKind, Object, Rule, RuleHead};
 use formula_rules::rule_holds;
 use platform_errors::RecordError;
-use text_methods::length;
 
 fn is_blank(cell: &Cell) -> bool
     ensures { result ≡ rules.is_blank cell.now }
@@ -70,7 +70,7 @@ fn is_long(kind: &FieldKind, cell: &Cell) -> bool
     ensures { result ≡ spec.is_long kind.now cell.now }
 {
     match (kind, cell) {
-        (FieldKind::Text(most), Cell::Text(text)) => length(text.as_str()) > *most as usize,
+        (FieldKind::Text(most), Cell::Text(text)) => text.length() > *most as usize,
         _ => false,
     }
 }

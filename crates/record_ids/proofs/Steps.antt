@@ -3,7 +3,7 @@ use Rattle.std.proofs.Common.{arith, ◌≡◌, ◌<◌, inl, inr, ℕ, zero, su
 use Rattle.std.proofs.lemmas.List.{length-append, take-append-drop, length-drop}
 use Rattle.std.proofs.lemmas.List.Elements.{All-append, All-drop}
 use Rattle.apex_num.specs.Ids.{IsAlphanumeric, IsId, Names, checks}
-use Rattle.apex_schema.specs.Users.{digit, four}
+use Rattle.row_meaning.specs.Users.{digit, four}
 use Rattle.record_ids.specs.Ids.{minted_id, most, IsUserNumber}
 
 pub all_four : (P : ℕ → Type 0) (a b c d : ℕ) → P a → P b → P c → P d → All P (a ∷ b ∷ c ∷ d ∷ [])

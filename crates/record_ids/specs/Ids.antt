@@ -2,7 +2,7 @@
 -- request and a count.
 use Rattle.std.specs.Prelude.{◌≡◌, ◌<◌, ℕ, suc, ◌+◌, ◌^◌, ◌&&◌, Bool, List, ◌++◌, codes, take, drop, length, bytes_eq, Option, None, Some, All}
 use Rattle.apex_num.specs.Ids.{IsAlphanumeric}
-use Rattle.apex_schema.specs.Users.{four, user_id}
+use Rattle.row_meaning.specs.Users.{four, user_id}
 
 -- what four digits can say
 abbrev pub most : ℕ

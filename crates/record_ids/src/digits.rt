@@ -2,7 +2,7 @@
 
 ghost use Rattle.std.specs.Prelude.{◌≡◌, ◌<◌, ◌≤◌, ◌∷◌, [], length, slice_index, All};
 ghost use Rattle.apex_num.specs.Ids.{IsAlphanumeric};
-ghost use Rattle.apex_schema.specs.Users.{digit, four};
+ghost use Rattle.row_meaning.specs.Users.{digit, four};
 ghost use Rattle.record_ids.specs.Ids.{most};
 
 // The digit of a number.

@@ -2,7 +2,7 @@
 
 ghost use Rattle.std.specs.Prelude.{◌≡◌, ◌<◌, ◌≤◌, ◌++◌, suc, take, drop, All};
 ghost use Rattle.apex_num.specs.Ids.{IsAlphanumeric};
-ghost use Rattle.apex_schema.specs.Users.{user_id};
+ghost use Rattle.row_meaning.specs.Users.{user_id};
 ghost use Rattle.record_ids.specs.Ids as spec;
 ghost use Rattle.record_ids.specs.Ids.{IsPrefix, IsUserNumber, most};
 

@@ -5,9 +5,9 @@ use Rattle.std.specs.declared.cmp.Ordering.{Ordering}
 use Rattle.std.specs.declared.cmp.Ordering.TheVariants.{Less, Equal, Greater}
 use Rattle.std.specs.Ordering.{nat_cmp, is_eq}
 use Rattle.std.specs.BTreeMap.{is_at}
-use Rattle.apex_schema.specs.declared.row.Row.{Row}
-use Rattle.apex_schema.specs.declared.row.Writes.{Writes}
-use Rattle.apex_schema.specs.Stores.{put_all, taken, without}
+use Rattle.apex_rows.specs.declared.row.Row.{Row}
+use Rattle.apex_rows.specs.declared.row.Writes.{Writes}
+use Rattle.row_meaning.specs.Stores.{put_all, taken, without}
 use Rattle.record_store.specs.Places.{Places, HasRoom, rows_of}
 use Rattle.record_store.specs.Heaps.{or_nothing}
 

@@ -13,11 +13,11 @@ use Rattle.std.specs.declared.cmp.Ordering.TheVariants.{Less, Equal, Greater}
 use Rattle.std.proofs.lemmas.Cmp.{nat_list_cmp_total}
 use Rattle.std.proofs.lemmas.Map.Text.{is_eq-slice_cmp}
 use Rattle.std.proofs.lemmas.List.{append_assoc, append-nil, map_push, take_more}
-use Rattle.apex_schema.specs.declared.query.Cond.{Cond}
-use Rattle.apex_schema.specs.declared.row.Row.{Row}
-use Rattle.apex_schema.specs.Cells.{bytes_cmp}
-use Rattle.apex_schema.specs.Conds.{holds_of}
-use Rattle.apex_schema.specs.Stores.{answer, put, put_by, put_all, has_id, without}
+use Rattle.apex_rows.specs.declared.query.Cond.{Cond}
+use Rattle.apex_rows.specs.declared.row.Row.{Row}
+use Rattle.row_meaning.specs.Cells.{bytes_cmp}
+use Rattle.row_meaning.specs.Conds.{holds_of}
+use Rattle.row_meaning.specs.Stores.{answer, put, put_by, put_all, has_id, without}
 use Rattle.record_store.specs.Places.{Places, row_in, rows_of, SlotFits, AllFit, has_place, HasPlace, HasRoom, Stay}
 
 same_id : (a b : List ℕ) → bytes_cmp a b ≡ Equal → a ≡ b

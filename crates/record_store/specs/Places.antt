@@ -4,13 +4,13 @@ use Rattle.std.specs.List.Sorted.{IsStrictlySortedBy}
 use Rattle.std.specs.Option.{is_some}
 use Rattle.std.specs.Map.{keys_of, lookup}
 use Rattle.std.specs.BTreeMap.{is_at}
-use Rattle.apex_schema.specs.declared.query.Question.{Question}
-use Rattle.apex_schema.specs.declared.query.Question.TheVariants.{Read, Grab}
-use Rattle.apex_schema.specs.declared.query.Answer.{Answer}
-use Rattle.apex_schema.specs.declared.query.Answer.TheVariants.{Rows, Granted}
-use Rattle.apex_schema.specs.declared.row.Row.{Row}
-use Rattle.apex_schema.specs.Cells.{bytes_cmp}
-use Rattle.apex_schema.specs.Stores.{answer}
+use Rattle.apex_rows.specs.declared.query.Question.{Question}
+use Rattle.apex_rows.specs.declared.query.Question.TheVariants.{Read, Grab}
+use Rattle.apex_rows.specs.declared.query.Answer.{Answer}
+use Rattle.apex_rows.specs.declared.query.Answer.TheVariants.{Rows, Granted}
+use Rattle.apex_rows.specs.declared.row.Row.{Row}
+use Rattle.row_meaning.specs.Cells.{bytes_cmp}
+use Rattle.row_meaning.specs.Stores.{answer}
 
 abbrev pub Places : Type 0
 Places = List (List ℕ × Option Row)

@@ -4,14 +4,14 @@ ghost use Rattle.std.specs.Prelude.{◌≡◌, ◌&&◌, eqb, [], ◌∷◌, Som
 ghost use Rattle.std.specs.BTreeMap.{is_at};
 ghost use Rattle.std.specs.List.Sorted.{IsStrictlySortedBy};
 ghost use Rattle.std.specs.Map.{keys_of, set_value};
-ghost use Rattle.apex_schema.specs.Cells.{bytes_cmp};
-ghost use Rattle.apex_schema.specs.Conds.{holds_of};
-ghost use Rattle.apex_schema.specs.Stores.{answer, put, taken, without};
+ghost use Rattle.row_meaning.specs.Cells.{bytes_cmp};
+ghost use Rattle.row_meaning.specs.Conds.{holds_of};
+ghost use Rattle.row_meaning.specs.Stores.{answer, put, taken, without};
 ghost use Rattle.record_store.specs.Places.{HasPlace, HasRoom, Stay, answer_to, rows_of};
 
 use apex_list::Items;
 use apex_num::{Id, NoMemory};
-use apex_schema::{Answer, Cond, Question, Row, Writes};
+use apex_rows::{Answer, Cond, Question, Row, Writes};
 use row_conditions::holds;
 use std::alloc::{AllocError, Global};
 use std::collections::BTreeMap;
@@ -26,7 +26,7 @@ pub struct TenantRows {
 
 impl Model for TenantRows {
     ghost use Rattle.std.specs.Prelude.{ℕ, List, Option};
-    ghost use Rattle.apex_schema.specs.declared.row.Row.{Row};
+    ghost use Rattle.apex_rows.specs.declared.row.Row.{Row};
     ghost use Rattle.record_store.specs.Places.{IsKeyed};
 
     ghost Value = { List (List ℕ × Option Row) };
@@ -88,7 +88,9 @@ impl TenantRows {
         ensures { IfOk result (λ a. a ≡ answer_to (rows_of self.now) question.now) }
     {
         match question {
-            Question::Read { object, cond } => Ok(Answer::Rows(self.read(*object, cond)?)),
+            Question::Read { object, cond } => {
+                Ok(Answer::Rows(self.read(*object, cond.get())?))
+            },
             Question::Grab { .. } => Ok(Answer::Granted),
         }
     }

@@ -1,13 +1,13 @@
 // The rows of all tenants.
 
 ghost use Rattle.std.specs.Prelude.{◌≡◌, ◌+◌, ◌-◌, ◌^◌, ℕ, [], min, OnOk, OnErr, IfOk};
-ghost use Rattle.apex_schema.specs.Stores.{taken};
+ghost use Rattle.row_meaning.specs.Stores.{taken};
 ghost use Rattle.record_store.specs.Places.{HasRoom, answer_to, rows_of};
 ghost use Rattle.record_store.specs.Heaps.{IsThere, SamePlaces, SameRows, places_of, rows_in};
 
 use crate::rows::TenantRows;
 use apex_num::NoMemory;
-use apex_schema::{Answer, Question, Writes};
+use apex_rows::{Answer, Question, Writes};
 use std::alloc::{AllocError, Global};
 use std::collections::BTreeMap;
 use std::marker::Model;

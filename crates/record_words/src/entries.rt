@@ -9,7 +9,7 @@ use apex_text::Name;
 use std::alloc::{AllocError, Global};
 
 /// A word of the records of an object, which has this number.
-#[derive(Debug, PartialEq, Eq, Hash, Drop)]
+#[derive(PartialEq, Eq, Hash, Drop)]
 pub struct RecordKey {
     pub object: usize,
     pub name: Name,
@@ -28,7 +28,7 @@ impl RecordKey {
 }
 
 /// What a word of a record means.
-#[derive(Clone, Copy, Debug, PartialEq, Eq, Hash, Drop)]
+#[derive(Clone, Copy, PartialEq, Eq, Drop)]
 pub enum RecordWord {
     /// The field with this number.
     Field(usize),
@@ -39,7 +39,7 @@ pub enum RecordWord {
 }
 
 /// A word of an object, and what it means.
-#[derive(Debug, Drop)]
+#[derive(Drop)]
 pub struct WordEntry {
     pub key: RecordKey,
     pub word: RecordWord,

@@ -1,7 +1,7 @@
 -- Texts that are put together part by part.
 use Rattle.std.proofs.Common.{arith, ◌≡◌, ℕ, suc, ◌+◌, ◌<◌, ◌≤◌, List, [], ◌∷◌, ◌++◌, length, drop, refl, ap, sym, ◌∙◌, append_assoc, length-append}
 use Rattle.std.proofs.lemmas.List.{at_drop_more}
-use Rattle.apex_schema.specs.declared.reply.Fault.{Fault}
+use Rattle.fault_words.specs.declared.fault.Fault.{Fault}
 use Rattle.bundle_read.specs.declared.entries.RequestEntry.{RequestEntry}
 use Rattle.reply_text.specs.Reports.{undeployed_line, requests_text}
 

@@ -2,13 +2,13 @@
 use Rattle.std.specs.Prelude.{ℕ, cond, eqb, List, [], ◌∷◌, ◌++◌, codes, decimal}
 use Rattle.apex_num.specs.declared.kind.LimitKind.{LimitKind}
 use Rattle.apex_num.specs.declared.kind.LimitKind.TheVariants.{Queries, Rows, Dml, Saved, Depth, Steps, Alloc, Calls}
-use Rattle.apex_schema.specs.declared.reply.Counts.{Counts}
-use Rattle.apex_schema.specs.declared.reply.Fault.{Fault}
-use Rattle.apex_schema.specs.declared.reply.FaultWord.{FaultWord}
-use Rattle.apex_schema.specs.declared.reply.FaultWord.TheVariants as Word
-use Rattle.apex_schema.specs.declared.reply.Outcome.{Outcome}
-use Rattle.apex_schema.specs.declared.reply.Outcome.TheVariants.{Ok, Thrown, Limit, Refused}
-use Rattle.apex_schema.specs.declared.reply.Reply.{Reply}
+use Rattle.apex_requests.specs.declared.reply.Counts.{Counts}
+use Rattle.fault_words.specs.declared.fault.Fault.{Fault}
+use Rattle.fault_words.specs.declared.fault.FaultWord.{FaultWord}
+use Rattle.fault_words.specs.declared.fault.FaultWord.TheVariants as Word
+use Rattle.apex_requests.specs.declared.reply.Outcome.{Outcome}
+use Rattle.apex_requests.specs.declared.reply.Outcome.TheVariants.{Ok, Thrown, Limit, Refused}
+use Rattle.apex_requests.specs.declared.reply.Reply.{Reply}
 
 -- a backslash, a line feed and a carriage return are printed as two signs
 abbrev pub escape : ℕ → List ℕ

@@ -1,10 +1,10 @@
 -- The text of a run (docs/formats.md, "Reports").
 use Rattle.std.specs.Prelude.{ℕ, ◌+◌, List, [], ◌∷◌, ◌++◌, length, codes, decimal, replicate, slice_index_or, slice_set, Option, None, Some}
 use Rattle.apex_num.specs.Ids.{long_id}
-use Rattle.apex_schema.specs.declared.reply.Event.{Event}
-use Rattle.apex_schema.specs.declared.reply.EventKind.{EventKind}
-use Rattle.apex_schema.specs.declared.reply.EventKind.TheVariants.{Start, Grab, Refuse, Restart, End}
-use Rattle.apex_schema.specs.declared.reply.Fault.{Fault}
+use Rattle.apex_requests.specs.declared.reply.Event.{Event}
+use Rattle.apex_requests.specs.declared.reply.EventKind.{EventKind}
+use Rattle.apex_requests.specs.declared.reply.EventKind.TheVariants.{Start, Grab, Refuse, Restart, End}
+use Rattle.fault_words.specs.declared.fault.Fault.{Fault}
 use Rattle.bundle_read.specs.declared.entries.RequestEntry.{RequestEntry}
 use Rattle.bundle_read.specs.declared.entries.SessionEntry.{SessionEntry}
 use Rattle.bundle_read.specs.declared.entries.TenantPlan.{TenantPlan}

@@ -5,7 +5,8 @@ ghost use Rattle.reply_text.specs.Lines as spec;
 
 use crate::words::{limit_word, word};
 use apex_num::{LimitKind, Text};
-use apex_schema::{Counts, Fault, Outcome, Reply};
+use apex_requests::{Counts, Outcome, Reply};
+use fault_words::Fault;
 use itoa::Buffer;
 use std::alloc::AllocError;
 

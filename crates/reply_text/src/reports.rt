@@ -6,8 +6,9 @@ ghost use Rattle.reply_text.specs.Reports as spec;
 use crate::lines::{put_fault, put_number, put_reply};
 use apex_list::Items;
 use apex_num::{NoMemory, id_18};
-use apex_schema::{Event, EventKind, Fault};
+use apex_requests::{Event, EventKind};
 use bundle_read::{Bundle, RequestEntry, SessionEntry, TenantPlan};
+use fault_words::Fault;
 use std::alloc::{AllocError, Global};
 
 // What a line begins with.

@@ -4,7 +4,7 @@ ghost use Rattle.std.specs.Prelude.{◌≡◌};
 ghost use Rattle.reply_text.specs.Lines.{kind_word, word_text};
 
 use apex_num::LimitKind;
-use apex_schema::FaultWord;
+use fault_words::FaultWord;
 
 /// The word of a limit.
 pub fn limit_word(kind: LimitKind) -> &'static [u8]

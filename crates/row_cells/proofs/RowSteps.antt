@@ -7,10 +7,10 @@ use Rattle.std.proofs.lemmas.Option.{same_Some, slice_get_within}
 use Rattle.std.proofs.lemmas.Bool.{ne_eqb}
 use Rattle.std.proofs.Math.Dec.{eqb_refl}
 use Rattle.std.proofs.Math.Seq.{drop-cons}
-use Rattle.apex_schema.specs.Plans.{bind}
+use Rattle.schema_plans.specs.Plans.{bind}
 use Rattle.apex_schema.specs.declared.schema.FieldKind.{FieldKind}
 use Rattle.apex_schema.specs.declared.schema.FieldKind.TheVariants as Kind
-use Rattle.apex_schema.specs.Names.{place_of}
+use Rattle.schema_names.specs.Names.{place_of}
 use Rattle.apex_text.specs.Fold.{folded}
 use Rattle.formula_rules.specs.Grammar.{field_names}
 use Rattle.apex_num.specs.declared.cell.Cell.{Cell}

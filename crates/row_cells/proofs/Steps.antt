@@ -1,11 +1,11 @@
 -- Cells of texts, by what the texts are.
-use Rattle.std.proofs.Common.{arith, ◌≡◌, ◌+◌, ◌⊎◌, ℕ, ℤ, Some, None, subst, List, length, take, inl, inr, refl, sym, ap, ◌∙◌}
+use Rattle.std.proofs.Common.{arith, ◌≡◌, ◌+◌, ◌⊎◌, ℕ, ℤ, Option, Some, None, subst, List, length, take, inl, inr, refl, sym, ap, ◌∙◌}
 use Rattle.std.proofs.lemmas.List.{length-append}
 use Rattle.std.proofs.Math.Seq.{take-append_seam}
 use Rattle.apex_num.specs.declared.cell.Cell.TheVariants as Cells
 use Rattle.bundle_read.specs.declared.entries.CellValue.{CellValue}
 use Rattle.bundle_read.specs.declared.entries.CellValue.TheVariants as Written
-use Rattle.date_texts.specs.Forms.{IsDateText, IsMomentText}
+use Rattle.civil_dates.specs.Texts.{IsDateText, IsMomentText, date_value, moment_value}
 use Rattle.row_cells.specs.Cells.{Only, IsIdCell, IsDayCell, IsMomentCell}
 use Rattle.apex_num.specs.Ids.{Names, checks, long_id}
 
@@ -28,24 +28,30 @@ one_id text id other h k = by_forms text id other h.0.0 k.0.0 h.1 k.1
 
 -- ---- cells of a text
 
+one_value : (o : Option ℤ) (m n : ℤ) → o ≡ Some m → o ≡ Some n → m ≡ n
+one_value o m n h k = cc
+
+no_value : (o : Option ℤ) (m : ℤ) → o ≡ None → o ≡ Some m → ⊥
+no_value o m h k = cc
+
 module _ (value : CellValue) (text bytes : List ℕ) (is : value ≡ Written.Text text) (same : bytes ≡ text) where
-  pub day_some : (n : ℤ) → IsDateText bytes n → ((other : ℤ) → IsDateText bytes other → other ≡ n) → Only (IsDayCell value) (Some (Cells.Day n))
-  day_some n h one = subst (λ v. Only (IsDayCell v) (Some (Cells.Day n))) (sym is) (
+  pub day_some : (n : ℤ) → IsDateText bytes n → Only (IsDayCell value) (Some (Cells.Day n))
+  day_some n h = subst (λ v. Only (IsDayCell v) (Some (Cells.Day n))) (sym is) (
     (n, subst (λ t. IsDateText t n) same h, refl),
-    λ other (m, k, e). e ∙ ap Cells.Day (one m (subst (λ t. IsDateText t m) (sym same) k)),
+    λ other (m, k, e). e ∙ ap Cells.Day (one_value (date_value bytes) m n (subst (λ t. IsDateText t m) (sym same) k) h),
   )
 
-  pub day_none : ((n : ℤ) → IsDateText bytes n → ⊥) → Only (IsDayCell value) None
-  day_none h = subst (λ v. Only (IsDayCell v) None) (sym is) (λ c (m, k, e). h m (subst (λ t. IsDateText t m) (sym same) k))
+  pub day_none : date_value bytes ≡ None → Only (IsDayCell value) None
+  day_none h = subst (λ v. Only (IsDayCell v) None) (sym is) (λ c (m, k, e). no_value (date_value bytes) m h (subst (λ t. IsDateText t m) (sym same) k))
 
-  pub moment_some : (n : ℤ) → IsMomentText bytes n → ((other : ℤ) → IsMomentText bytes other → other ≡ n) → Only (IsMomentCell value) (Some (Cells.Moment n))
-  moment_some n h one = subst (λ v. Only (IsMomentCell v) (Some (Cells.Moment n))) (sym is) (
+  pub moment_some : (n : ℤ) → IsMomentText bytes n → Only (IsMomentCell value) (Some (Cells.Moment n))
+  moment_some n h = subst (λ v. Only (IsMomentCell v) (Some (Cells.Moment n))) (sym is) (
     (n, subst (λ t. IsMomentText t n) same h, refl),
-    λ other (m, k, e). e ∙ ap Cells.Moment (one m (subst (λ t. IsMomentText t m) (sym same) k)),
+    λ other (m, k, e). e ∙ ap Cells.Moment (one_value (moment_value bytes) m n (subst (λ t. IsMomentText t m) (sym same) k) h),
   )
 
-  pub moment_none : ((n : ℤ) → IsMomentText bytes n → ⊥) → Only (IsMomentCell value) None
-  moment_none h = subst (λ v. Only (IsMomentCell v) None) (sym is) (λ c (m, k, e). h m (subst (λ t. IsMomentText t m) (sym same) k))
+  pub moment_none : moment_value bytes ≡ None → Only (IsMomentCell value) None
+  moment_none h = subst (λ v. Only (IsMomentCell v) None) (sym is) (λ c (m, k, e). no_value (moment_value bytes) m h (subst (λ t. IsMomentText t m) (sym same) k))
 
   pub id_some : (id : List ℕ) → Names bytes id → Only (IsIdCell value) (Some (Cells.Id id))
   id_some id h = subst (λ v. Only (IsIdCell v) (Some (Cells.Id id))) (sym is) (

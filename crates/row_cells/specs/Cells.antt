@@ -6,7 +6,7 @@ use Rattle.apex_num.specs.Decimals.{IsDecimal, Spells}
 use Rattle.apex_num.specs.Ids.{Names}
 use Rattle.apex_schema.specs.declared.schema.FieldKind.{FieldKind}
 use Rattle.apex_schema.specs.declared.schema.FieldKind.TheVariants as Kind
-use Rattle.date_texts.specs.Forms.{IsDateText, IsMomentText}
+use Rattle.civil_dates.specs.Texts.{IsDateText, IsMomentText}
 use Rattle.bundle_read.specs.declared.entries.CellValue.{CellValue}
 use Rattle.bundle_read.specs.declared.entries.CellValue.TheVariants as Written
 

@@ -3,8 +3,8 @@ use Rattle.std.specs.Prelude.{◌≡◌, ℕ, eqb, Bool, true, false, List, [], 
 use Rattle.std.specs.List.{list_any}
 use Rattle.apex_num.specs.declared.cell.Cell.{Cell}
 use Rattle.apex_text.specs.Fold.{folded}
-use Rattle.apex_schema.specs.Names.{place_of}
-use Rattle.apex_schema.specs.Plans.{bind}
+use Rattle.schema_names.specs.Names.{place_of}
+use Rattle.schema_plans.specs.Plans.{bind}
 use Rattle.formula_rules.specs.Grammar.{field_names}
 use Rattle.apex_schema.specs.declared.schema.Field.{Field}
 use Rattle.apex_schema.specs.declared.schema.FieldKind.{FieldKind}

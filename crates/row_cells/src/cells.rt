@@ -8,7 +8,7 @@ ghost use Rattle.row_cells.specs.Cells.{Only};
 use apex_num::{Cell, Dec, NoMemory, Text, read_dec, read_id};
 use apex_schema::FieldKind;
 use bundle_read::CellValue;
-use date_texts::{read_date, read_moment};
+use civil_dates::{read_date, read_moment};
 
 fn id_cell(value: &CellValue) -> Option<Cell>
     ensures { Only (spec.IsIdCell value.now) result }

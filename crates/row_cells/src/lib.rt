@@ -6,6 +6,3 @@ mod rows;
 
 pub use cells::cell_of;
 pub use rows::{RowFault, row_of};
-
-#[cfg(test)]
-mod tests;

@@ -8,9 +8,10 @@ ghost use Rattle.row_cells.specs.Rows as spec;
 use crate::cells::cell_of;
 use apex_list::Items;
 use apex_num::{Cell, NoMemory};
-use apex_schema::{Field, FieldKind, Places};
+use apex_schema::{Field, FieldKind};
 use apex_text::Name;
 use bundle_read::CellEntry;
+use schema_names::Places;
 use std::alloc::{AllocError, Global};
 use thiserror::Error;
 

@@ -5,7 +5,7 @@ use Rattle.std.proofs.Math.Bool.{and-true}
 use Rattle.std.proofs.lemmas.List.{append_assoc, append-nil, reverse-append, reverse-reverse}
 use Rattle.std.specs.Str.{chars}
 use Rattle.apex_text.specs.Fold.{folded}
-use Rattle.apex_schema.specs.Cells.{some_end, one_then, agrees, text_like}
+use Rattle.row_meaning.specs.Cells.{some_end, one_then, agrees, text_like}
 use Rattle.row_conditions.specs.declared.like.Piece.{Piece}
 use Rattle.row_conditions.specs.declared.like.Piece.TheVariants.{Run, One, Is}
 use Rattle.row_conditions.specs.Pieces.{pieces, meets, column_from, column, last_from, last_of, is_run, begun, ended, turned_from, turned}

@@ -1,6 +1,6 @@
 -- Patterns of LIKE by their parts, and the ends of a pattern that a text meets (docs/platform.md, "Conditions").
 use Rattle.std.specs.Prelude.{ℕ, ◌&&◌, ◌||◌, eqb, Bool, true, false, cond, List, [], ◌∷◌}
-use Rattle.apex_schema.specs.Cells.{some_end, one_then, is_empty}
+use Rattle.row_meaning.specs.Cells.{some_end, one_then, is_empty}
 use Rattle.row_conditions.specs.declared.like.Piece.{Piece}
 use Rattle.row_conditions.specs.declared.like.Piece.TheVariants.{Run, One, Is}
 

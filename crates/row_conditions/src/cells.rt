@@ -2,7 +2,7 @@
 
 ghost use Rattle.std.specs.Prelude.{◌≡◌};
 ghost use Rattle.apex_text.specs.Fold.{folded};
-ghost use Rattle.apex_schema.specs.Cells.{bytes_cmp, cell_cmp, is_null as null, same_cell};
+ghost use Rattle.row_meaning.specs.Cells.{bytes_cmp, cell_cmp, is_null as null, same_cell};
 
 use apex_num::Cell;
 use std::cmp::Ordering;

@@ -2,16 +2,16 @@
 
 ghost use Rattle.std.specs.Prelude.{◌≡◌, [], IfOk, map};
 ghost use Rattle.std.specs.List.{list_all, list_any};
-ghost use Rattle.apex_schema.specs.declared.query.Cond.{Cond as TheCond};
+ghost use Rattle.apex_rows.specs.declared.query.Cond.{Cond as TheCond};
 ghost use Rattle.apex_num.specs.declared.cell.Cell.TheVariants as TheCell;
-ghost use Rattle.apex_schema.specs.Cells.{compares, same_cell};
-ghost use Rattle.apex_schema.specs.Conds.{cell_of, holds_of, own_value, term_value, terms_values, within};
+ghost use Rattle.row_meaning.specs.Cells.{compares, same_cell};
+ghost use Rattle.row_meaning.specs.Conds.{cell_of, holds_of, own_value, term_value, terms_values, within};
 
 use crate::cells::{compare, is_same};
 use crate::like::cell_like;
 use apex_list::Items;
 use apex_num::Cell;
-use apex_schema::{Cond, CondOp, Row, Term, Terms};
+use apex_rows::{Cond, CondOp, Row, Term, Terms};
 use std::alloc::{AllocError, Global};
 use std::cmp::Ordering;
 

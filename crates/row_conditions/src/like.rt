@@ -3,7 +3,7 @@
 ghost use Rattle.std.specs.Prelude.{◌≡◌, ◌&&◌, ◌∷◌, true, false, reverse, IfOk, OnOk};
 ghost use Rattle.std.specs.Str.{chars};
 ghost use Rattle.apex_text.specs.Fold.{folded};
-ghost use Rattle.apex_schema.specs.Cells.{agrees, cell_like as like, text_like as texts_like};
+ghost use Rattle.row_meaning.specs.Cells.{agrees, cell_like as like, text_like as texts_like};
 ghost use Rattle.row_conditions.specs.Pieces.{begun, ended, is_run as run, last_of, meets, piece, pieces, turned};
 
 use apex_num::Cell;
@@ -12,7 +12,7 @@ use std::alloc::{AllocError, Global};
 use std::mem;
 
 /// What a part of a pattern takes.
-#[derive(Clone, Copy, Debug, PartialEq, Eq, Drop)]
+#[derive(Clone, Copy, PartialEq, Eq, Drop)]
 pub enum Piece {
     /// Any run of characters.
     Run,

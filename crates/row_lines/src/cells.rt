@@ -2,7 +2,7 @@
 
 use apex_list::Items;
 use apex_num::{Cell, Id, Text, read_dec, read_id};
-use apex_schema::Row;
+use apex_rows::Row;
 use std::alloc::{AllocError, Global};
 
 fn value(alloc: Global, kind: &str, text: &str) -> Result<Cell, AllocError> {

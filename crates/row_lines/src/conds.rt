@@ -4,7 +4,7 @@
 
 use crate::cells::cell_of;
 use apex_list::{Boxed, Items};
-use apex_schema::{Cond, CondOp, Path, Term, Terms};
+use apex_rows::{Cond, CondOp, Path, Term, Terms};
 use std::alloc::{AllocError, Global};
 
 fn op_of(sign: char) -> Option<CondOp> {

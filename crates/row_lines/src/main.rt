@@ -13,8 +13,7 @@ mod overlays;
 mod stores;
 
 use apex_io::{StdSource, read_all};
-use query_questions::local_part;
-use row_conditions::{holds, text_like};
+use row_conditions::{holds, local_part, text_like};
 use std::alloc::{AllocError, Global};
 use std::process::ExitCode;
 

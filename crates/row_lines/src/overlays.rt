@@ -2,7 +2,8 @@
 // and of a journal `(`, `)` and `~`, where a statement begins, ends, and is undone.
 
 use crate::cells::{id_of, row_of};
-use apex_schema::{Row, Ticket};
+use apex_requests::Ticket;
+use apex_rows::Row;
 use std::alloc::{AllocError, Global};
 use txn_overlay::{Journal, Overlay};
 

@@ -3,7 +3,9 @@
 
 use crate::conds::cond_of;
 use crate::overlays::{add_row, overlay_of};
-use apex_schema::{Answer, Question, Ticket};
+use apex_list::Boxed;
+use apex_requests::Ticket;
+use apex_rows::{Answer, Question};
 use record_store::Store;
 use std::alloc::{AllocError, Global};
 
@@ -31,7 +33,7 @@ fn read(alloc: Global, store: &mut Store, wanted: &str) -> Result<String, AllocE
     };
     let question = Question::Read {
         object: object.parse().unwrap_or(0),
-        cond,
+        cond: Boxed::new(alloc, cond)?,
     };
     match store.answer(tenant.parse().unwrap_or(0), &question)? {
         Answer::Rows(found) => {

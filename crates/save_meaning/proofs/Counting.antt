@@ -7,12 +7,12 @@ use Rattle.std.specs.declared.cmp.Ordering.TheVariants.{Less, Equal, Greater}
 use Rattle.std.specs.Ordering.{is_eq}
 use Rattle.std.proofs.lemmas.Map.Text.{is_eq-slice_cmp}
 use Rattle.std.proofs.lemmas.Slice.Eq.{bytes_eq-Decides}
-use Rattle.apex_schema.specs.declared.row.Row.{Row}
-use Rattle.apex_schema.specs.Cells.{bytes_cmp}
-use Rattle.apex_schema.specs.declared.query.Cond.{Cond}
-use Rattle.apex_schema.specs.Conds.{holds_of}
-use Rattle.apex_schema.specs.Overlays.{Overlay, Change, Now, Gone, touched_ids, overlay_rows, row_of, merged, over}
-use Rattle.apex_schema.specs.Stores.{put, put_by, put_all, has_id, without, of_object, answer}
+use Rattle.apex_rows.specs.declared.row.Row.{Row}
+use Rattle.row_meaning.specs.Cells.{bytes_cmp}
+use Rattle.apex_rows.specs.declared.query.Cond.{Cond}
+use Rattle.row_meaning.specs.Conds.{holds_of}
+use Rattle.row_meaning.specs.Overlays.{Overlay, Change, Now, Gone, touched_ids, overlay_rows, row_of, merged, over}
+use Rattle.row_meaning.specs.Stores.{put, put_by, put_all, has_id, without, of_object, answer}
 use Rattle.save_meaning.specs.Counts.{KeyIs, IsKeyed}
 use Rattle.save_meaning.specs.Inserts.{ids_of}
 

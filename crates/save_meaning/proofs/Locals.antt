@@ -2,12 +2,12 @@
 use Rattle.std.proofs.Common.{◌≡◌, refl, ap, sym, ◌∙◌, Bool, true, false, cond, List, [], ◌∷◌}
 use Rattle.std.specs.Prelude.{◌&&◌, filter}
 use Rattle.std.specs.List.{list_all}
-use Rattle.apex_schema.specs.declared.row.Row.{Row}
-use Rattle.apex_schema.specs.declared.query.Cond.{Cond}
-use Rattle.apex_schema.specs.declared.query.Cond.TheVariants.{All, rolls-All}
-use Rattle.apex_schema.specs.declared.query.Cond.TheViews.{out-Cond, roll-Cond, roll-out-Cond}
-use Rattle.apex_schema.specs.declared.query.Cond.TheOpen.{Cond-F}
-use Rattle.apex_schema.specs.Conds.{holds_of, is_local, conjuncts_by, local_part}
+use Rattle.apex_rows.specs.declared.row.Row.{Row}
+use Rattle.apex_rows.specs.declared.query.Cond.{Cond}
+use Rattle.apex_rows.specs.declared.query.Cond.TheVariants.{All, rolls-All}
+use Rattle.apex_rows.specs.declared.query.Cond.TheViews.{out-Cond, roll-Cond, roll-out-Cond}
+use Rattle.apex_rows.specs.declared.query.Cond.TheOpen.{Cond-F}
+use Rattle.row_meaning.specs.Conds.{holds_of, is_local, conjuncts_by, local_part}
 use Rattle.row_conditions.proofs.Folds.{all_value}
 
 module _ (r : Row) where

@@ -10,21 +10,21 @@ use Rattle.apex_schema.specs.declared.schema.Access.TheVariants.{Edit}
 use Rattle.apex_schema.specs.declared.schema.FieldKind.TheVariants as Kind
 use Rattle.apex_schema.specs.declared.schema.Object.{Object}
 use Rattle.apex_schema.specs.declared.schema.Schema.{Schema}
-use Rattle.apex_schema.specs.declared.query.Question.TheVariants.{Read}
-use Rattle.apex_schema.specs.declared.query.Answer.{Answer}
-use Rattle.apex_schema.specs.declared.query.Answer.TheVariants.{Rows as RowsOf}
-use Rattle.apex_schema.specs.declared.query.Cond.{Cond}
-use Rattle.apex_schema.specs.declared.query.Cond.TheOpen.{Cond-F}
-use Rattle.apex_schema.specs.declared.query.Cond.TheViews.{roll-Cond}
-use Rattle.apex_schema.specs.declared.query.Cond.TheFolds.{fold-roll-Cond}
-use Rattle.apex_schema.specs.declared.query.CondOp.TheVariants.{Equal}
-use Rattle.apex_schema.specs.declared.query.Term.TheVariants.{Given}
-use Rattle.apex_schema.specs.declared.request.Op.TheVariants as Op
-use Rattle.apex_schema.specs.declared.request.SaveRow.{SaveRow}
-use Rattle.apex_schema.specs.declared.row.Row.{Row}
-use Rattle.apex_schema.specs.Overlays.{Overlay, Now}
-use Rattle.apex_schema.specs.Schemas.{row_share}
-use Rattle.apex_schema.specs.Users.{user_id}
+use Rattle.apex_rows.specs.declared.query.Question.TheVariants.{Read}
+use Rattle.apex_rows.specs.declared.query.Answer.{Answer}
+use Rattle.apex_rows.specs.declared.query.Answer.TheVariants.{Rows as RowsOf}
+use Rattle.apex_rows.specs.declared.query.Cond.{Cond}
+use Rattle.apex_rows.specs.declared.query.Cond.TheOpen.{Cond-F}
+use Rattle.apex_rows.specs.declared.query.Cond.TheViews.{roll-Cond}
+use Rattle.apex_rows.specs.declared.query.Cond.TheFolds.{fold-roll-Cond}
+use Rattle.apex_rows.specs.declared.query.CondOp.TheVariants.{Equal}
+use Rattle.apex_rows.specs.declared.query.Term.TheVariants.{Given}
+use Rattle.apex_requests.specs.declared.request.Op.TheVariants as Op
+use Rattle.apex_requests.specs.declared.request.SaveRow.{SaveRow}
+use Rattle.apex_rows.specs.declared.row.Row.{Row}
+use Rattle.row_meaning.specs.Overlays.{Overlay, Now}
+use Rattle.row_meaning.specs.Users.{user_id}
+use Rattle.save_meaning.specs.Sites.{Site}
 use Rattle.save_meaning.specs.Transactions.{Txn, Stop, Needs, Throws, Res, Gives, Stops}
 use Rattle.save_meaning.specs.Drafts.{by_ids, is_bad_level, kept_cell}
 use Rattle.save_meaning.specs.Inserts.{insert}
@@ -56,8 +56,15 @@ line = record {
       ∷ record { name = codes "Payer"; kind = Kind.Lookup (record { to = 0; relation = codes "Payer__r"; children = codes "Lines__r" }); required = false } ∷ [];
 }
 
+-- RowShare stands behind the others
+abbrev share : Object
+share = record { name = codes "RowShare"; prefix = codes "00r"; default = Edit; heads = []; rules = []; fields = [] }
+
 abbrev schema : Schema
-schema = record { roles = []; users = record { name = codes "ann"; role = None } ∷ []; objects = account ∷ line ∷ row_share ∷ [] }
+schema = record { roles = []; users = record { name = codes "ann"; role = None } ∷ []; objects = account ∷ line ∷ share ∷ [] }
+
+abbrev here : Site
+here = record { schema = schema; ticket = record { session = 0; index = 0; user = 0; now = pos 0 } }
 
 abbrev fresh : Txn
 fresh = record { overlay = []; minted = 0; charges = []; tape = [] }
@@ -79,7 +86,7 @@ changes (Gives a t) = t.overlay
 changes (Stops why t) = t.overlay
 
 abbrev saved : SaveRow → Res Txn (List (List ℕ))
-saved r = insert alone schema 0 0 0 0 (r ∷ []) fresh
+saved r = insert alone here 0 (r ∷ []) fresh
 
 -- one record takes a step in each of seven phases
 one_counts : counts (saved (sized 0 (Num (pos 5)))) ≡ 1 ∷ 1 ∷ 7 ∷ 192 ∷ []
@@ -107,20 +114,20 @@ lacks_size : thrown (saved (sized 0 Null)) ≡ Some (Throws (Throw.Dml Op.Insert
 lacks_size = refl
 
 -- the second record fails, the first one has no row
-second_fails : thrown (insert alone schema 0 0 0 0 (sized 0 (Num (pos 5)) ∷ sized 1 Null ∷ []) fresh) ≡ Some (Throws (Throw.Dml Op.Insert (pos 1) (Error.Required (codes "Size"))))
+second_fails : thrown (insert alone here 0 (sized 0 (Num (pos 5)) ∷ sized 1 Null ∷ []) fresh) ≡ Some (Throws (Throw.Dml Op.Insert (pos 1) (Error.Required (codes "Size"))))
 second_fails = refl
 
-second_rows : changes (insert alone schema 0 0 0 0 (sized 0 (Num (pos 5)) ∷ sized 1 Null ∷ []) fresh) ≡ []
+second_rows : changes (insert alone here 0 (sized 0 (Num (pos 5)) ∷ sized 1 Null ∷ []) fresh) ≡ []
 second_rows = refl
 
-second_counts : counts (insert alone schema 0 0 0 0 (sized 0 (Num (pos 5)) ∷ sized 1 Null ∷ []) fresh) ≡ 1 ∷ 2 ∷ 11 ∷ 192 ∷ []
+second_counts : counts (insert alone here 0 (sized 0 (Num (pos 5)) ∷ sized 1 Null ∷ []) fresh) ≡ 1 ∷ 2 ∷ 11 ∷ 192 ∷ []
 second_counts = refl
 
 -- one record object twice, after the charges
-twice : thrown (insert alone schema 0 0 0 0 (sized 4 (Num (pos 5)) ∷ sized 4 (Num (pos 5)) ∷ []) fresh) ≡ Some (Throws Throw.DuplicateRecord)
+twice : thrown (insert alone here 0 (sized 4 (Num (pos 5)) ∷ sized 4 (Num (pos 5)) ∷ []) fresh) ≡ Some (Throws Throw.DuplicateRecord)
 twice = refl
 
-twice_counts : counts (insert alone schema 0 0 0 0 (sized 4 (Num (pos 5)) ∷ sized 4 (Num (pos 5)) ∷ []) fresh) ≡ 1 ∷ 2 ∷ 0 ∷ 0 ∷ []
+twice_counts : counts (insert alone here 0 (sized 4 (Num (pos 5)) ∷ sized 4 (Num (pos 5)) ∷ []) fresh) ≡ 1 ∷ 2 ∷ 0 ∷ 0 ∷ []
 twice_counts = refl
 
 -- a record with an Id
@@ -131,28 +138,28 @@ has_an_id : thrown (saved with_id) ≡ Some (Throws (Throw.Dml Op.Insert (pos 0)
 has_an_id = refl
 
 -- no record: nothing but the statement is charged
-none_counts : counts (insert alone schema 0 0 0 0 [] fresh) ≡ 1 ∷ 0 ∷ 0 ∷ 0 ∷ []
+none_counts : counts (insert alone here 0 [] fresh) ≡ 1 ∷ 0 ∷ 0 ∷ 0 ∷ []
 none_counts = refl
 
 -- a reference is asked for, once for a field
 abbrev led : ℕ → List ℕ → SaveRow
 led key id = record { key = key; id = None; cells = None ∷ None ∷ Some (Id id) ∷ [] }
 
-asks : thrown (insert alone schema 0 0 0 1 (led 0 (codes "001000000000002") ∷ led 1 (codes "001000000000001") ∷ led 2 (codes "001000000000002") ∷ []) fresh)
+asks : thrown (insert alone here 1 (led 0 (codes "001000000000002") ∷ led 1 (codes "001000000000001") ∷ led 2 (codes "001000000000002") ∷ []) fresh)
     ≡ Some (Needs (Read 0 (by_ids (codes "001000000000001" ∷ codes "001000000000002" ∷ []))))
 asks = refl
 
 -- it names no row
-dangles : thrown (insert alone schema 0 0 0 1 (led 0 (codes "001000000000001") ∷ []) (record fresh { tape = RowsOf [] ∷ [] }))
+dangles : thrown (insert alone here 1 (led 0 (codes "001000000000001") ∷ []) (record fresh { tape = RowsOf [] ∷ [] }))
     ≡ Some (Throws (Throw.Dml Op.Insert (pos 0) (Error.NoReference (codes "Payer"))))
 dangles = refl
 
 -- it names the row that is answered
-leads : counts (insert alone schema 0 0 0 1 (led 0 (codes "001000000000001") ∷ []) (record fresh { tape = RowsOf (a_row (codes "001000000000001") ∷ []) ∷ [] })) ≡ 1 ∷ 1 ∷ 7 ∷ 160 ∷ []
+leads : counts (insert alone here 1 (led 0 (codes "001000000000001") ∷ []) (record fresh { tape = RowsOf (a_row (codes "001000000000001") ∷ []) ∷ [] })) ≡ 1 ∷ 1 ∷ 7 ∷ 160 ∷ []
 leads = refl
 
 -- a row of the overlay isn't asked for
-own_row : counts (insert alone schema 0 0 0 1 (led 0 (codes "001000100000001") ∷ []) (record fresh { overlay = (codes "001000100000001", Now (a_row (codes "001000100000001"))) ∷ [] })) ≡ 1 ∷ 1 ∷ 7 ∷ 160 ∷ []
+own_row : counts (insert alone here 1 (led 0 (codes "001000100000001") ∷ []) (record fresh { overlay = (codes "001000100000001", Now (a_row (codes "001000100000001"))) ∷ [] })) ≡ 1 ∷ 1 ∷ 7 ∷ 160 ∷ []
 own_row = refl
 
 -- an owner that is no user

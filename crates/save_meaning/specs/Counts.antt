@@ -1,13 +1,13 @@
 -- COUNT() of the rows of an object, where sharing hides none and paths have one name (docs/platform.md, "Queries").
 use Rattle.std.specs.Prelude.{◌≡◌, ℕ, false, List, [], ◌∷◌, min, length, filter}
 use Rattle.apex_num.specs.declared.kind.LimitKind.TheVariants.{Queries, Rows}
-use Rattle.apex_schema.specs.declared.query.Cond.{Cond}
-use Rattle.apex_schema.specs.declared.query.Cond.TheVariants.{All}
-use Rattle.apex_schema.specs.declared.query.Question.TheVariants.{Read}
-use Rattle.apex_schema.specs.declared.row.Row.{Row}
-use Rattle.apex_schema.specs.Conds.{holds_of, local_part}
-use Rattle.apex_schema.specs.Overlays.{Overlay, Change, Now, Gone, touched_ids, merged}
-use Rattle.apex_schema.specs.Stores.{has_id}
+use Rattle.apex_rows.specs.declared.query.Cond.{Cond}
+use Rattle.apex_rows.specs.declared.query.Cond.TheVariants.{All}
+use Rattle.apex_rows.specs.declared.query.Question.TheVariants.{Read}
+use Rattle.apex_rows.specs.declared.row.Row.{Row}
+use Rattle.row_meaning.specs.Conds.{holds_of, local_part}
+use Rattle.row_meaning.specs.Overlays.{Overlay, Change, Now, Gone, touched_ids, merged}
+use Rattle.row_meaning.specs.Stores.{has_id}
 use Rattle.save_meaning.specs.Transactions.{Res, Gives, bind, Keeps, charge, ask}
 use Rattle.save_meaning.specs.Inserts.{rows_of_answer}
 

@@ -12,19 +12,18 @@ use Rattle.apex_schema.specs.declared.schema.FieldKind.TheVariants as Kind
 use Rattle.apex_schema.specs.declared.schema.Field.{Field}
 use Rattle.apex_schema.specs.declared.schema.RuleHead.{RuleHead}
 use Rattle.apex_schema.specs.declared.schema.Object.{Object}
-use Rattle.apex_schema.specs.declared.query.Cond.{Cond}
-use Rattle.apex_schema.specs.declared.query.Cond.TheVariants.{Within}
-use Rattle.apex_schema.specs.declared.query.Term.TheVariants.{Given}
-use Rattle.apex_schema.specs.declared.query.Terms.TheVariants.{Given as GivenAll}
-use Rattle.apex_schema.specs.declared.row.Row.{Row}
+use Rattle.apex_rows.specs.declared.query.Cond.{Cond}
+use Rattle.apex_rows.specs.declared.query.Cond.TheVariants.{Within}
+use Rattle.apex_rows.specs.declared.query.Term.TheVariants.{Given}
+use Rattle.apex_rows.specs.declared.query.Terms.TheVariants.{Given as GivenAll}
+use Rattle.apex_rows.specs.declared.row.Row.{Row}
 use Rattle.apex_schema.specs.declared.rule.Rule.{Rule}
-use Rattle.apex_schema.specs.Cells.{bytes_cmp}
-use Rattle.apex_schema.specs.Conds.{cell_of}
-use Rattle.apex_schema.specs.Overlays.{Overlay, touched_ids}
-use Rattle.apex_schema.specs.Plans.{or_later}
-use Rattle.apex_schema.specs.Rules.{is_blank, text_length, rule_value}
-use Rattle.apex_schema.specs.Stores.{has_id}
-use Rattle.apex_schema.specs.Users.{user_id}
+use Rattle.row_meaning.specs.Cells.{bytes_cmp}
+use Rattle.row_meaning.specs.Conds.{cell_of}
+use Rattle.row_meaning.specs.Overlays.{Overlay, touched_ids}
+use Rattle.row_meaning.specs.Rules.{is_blank, text_length, rule_value}
+use Rattle.row_meaning.specs.Stores.{has_id}
+use Rattle.row_meaning.specs.Users.{user_id}
 use Rattle.save_meaning.specs.declared.draft.Draft.{Draft}
 use Rattle.save_meaning.specs.declared.draft.Draft.TheVariants.{Going, Wrong}
 use Rattle.save_meaning.specs.declared.draft.Reference.{Reference}
@@ -32,6 +31,11 @@ use Rattle.save_meaning.specs.declared.draft.Reference.{Reference}
 abbrev pub judged_by : Row → Option RecordError → Draft
 judged_by row None = Going row
 judged_by row (Some e) = Wrong e
+
+-- the first of two that is there
+abbrev pub or_later : {A : Type 0} → Option A → Option A → Option A
+or_later None later = later
+or_later (Some first) later = Some first
 
 -- each record that goes on is looked at
 abbrev pub judged : (Row → Option RecordError) → List Draft → List Draft

@@ -6,16 +6,17 @@ use Rattle.platform_errors.specs.declared.record.RecordError.{RecordError}
 use Rattle.platform_errors.specs.declared.thrown.Thrown.TheVariants as Throw
 use Rattle.apex_schema.specs.declared.schema.Object.{Object}
 use Rattle.apex_schema.specs.declared.schema.Schema.{Schema}
-use Rattle.apex_schema.specs.declared.query.Question.TheVariants.{Read}
-use Rattle.apex_schema.specs.declared.query.Answer.{Answer}
-use Rattle.apex_schema.specs.declared.query.Answer.TheVariants.{Rows, Granted}
-use Rattle.apex_schema.specs.declared.request.Op.TheVariants as Op
-use Rattle.apex_schema.specs.declared.request.SaveRow.{SaveRow}
-use Rattle.apex_schema.specs.declared.row.Row.{Row}
-use Rattle.apex_schema.specs.Overlays.{Overlay, Now, merged}
-use Rattle.apex_schema.specs.Stores.{has_id}
+use Rattle.apex_rows.specs.declared.query.Question.TheVariants.{Read}
+use Rattle.apex_rows.specs.declared.query.Answer.{Answer}
+use Rattle.apex_rows.specs.declared.query.Answer.TheVariants.{Rows, Granted}
+use Rattle.apex_requests.specs.declared.request.Op.TheVariants as Op
+use Rattle.apex_requests.specs.declared.request.SaveRow.{SaveRow}
+use Rattle.apex_rows.specs.declared.row.Row.{Row}
+use Rattle.row_meaning.specs.Overlays.{Overlay, Now, merged}
+use Rattle.row_meaning.specs.Stores.{has_id}
 use Rattle.record_ids.specs.Ids.{minted_id}
 use Rattle.txn_overlay.specs.Changes.{changed}
+use Rattle.save_meaning.specs.Sites.{Site}
 use Rattle.save_meaning.specs.Transactions.{Throws, Res, Gives, Stops, bind, Keeps, charge, ask, set_overlay}
 use Rattle.save_meaning.specs.declared.draft.Draft.{Draft}
 use Rattle.save_meaning.specs.declared.draft.Draft.TheVariants.{Going, Wrong}
@@ -59,8 +60,8 @@ is_row_share schema object = eqb (object + 1) (length schema.objects)
 abbrev pub chunk_most : ℕ
 chunk_most = 200
 
--- where requests keep what a save sees; the schema; the session, the request in it and the user of the request
-module _ {S : Type 0} (keeps : Keeps S) (schema : Schema) (session request user : ℕ) where
+-- where requests keep what a save sees, and where the request runs
+module _ {S : Type 0} (keeps : Keeps S) (site : Site) where
   -- so many records enter a phase, a step each; where none does, nothing follows
   abbrev pub entered : List Row → List Draft → (List Draft → S → Res S (List Draft)) → S → Res S (List Draft)
   entered [] ds phase s = Gives ds s
@@ -76,7 +77,7 @@ module _ {S : Type 0} (keeps : Keeps S) (schema : Schema) (session request user 
   -- ---- loading: the rows that the records would be
 
   abbrev pub load : ℕ → Object → List SaveRow → S → Res S (List Draft)
-  load object o rows s = bind (charge keeps Steps (length rows) s) (λ u s1. Gives (loaded user object o rows) s1)
+  load object o rows s = bind (charge keeps Steps (length rows) s) (λ u s1. Gives (loaded site.ticket.user object o rows) s1)
 
   -- ---- references: one question for each field that leads to another object, where there are Ids to look for
 
@@ -92,17 +93,17 @@ module _ {S : Type 0} (keeps : Keeps S) (schema : Schema) (session request user 
 
   abbrev pub refer : Object → List Draft → S → Res S (List Draft)
   refer o ds s =
-      bind (found_all (references 0 o.fields) (going ds) s) (λ found s1. Gives (judged (bad_reference (length schema.users) o.fields found) ds) s1)
+      bind (found_all (references 0 o.fields) (going ds) s) (λ found s1. Gives (judged (bad_reference (length site.schema.users) o.fields found) ds) s1)
 
   -- ---- validation
 
   abbrev pub validate : ℕ → Object → List Draft → S → Res S (List Draft)
-  validate object o ds s = Gives (judged (invalid (is_row_share schema object) o) ds) s
+  validate object o ds s = Gives (judged (invalid (is_row_share site.schema object) o) ds) s
 
   -- ---- writing: each row gets the next Id
 
   abbrev pub next_id : Object → S → List ℕ
-  next_id o s = minted_id o.prefix session request ((keeps.txn s).minted + 1)
+  next_id o s = minted_id o.prefix site.ticket.session site.ticket.index ((keeps.txn s).minted + 1)
 
   abbrev pub put_new : List ℕ → Row → S → S
   put_new id row s =
@@ -153,4 +154,4 @@ module _ {S : Type 0} (keeps : Keeps S) (schema : Schema) (session request user 
   insert object rows s =
       bind (charge keeps Dml 1 s) (λ u s1.
       bind (charge keeps Saved (length rows) s1) (λ v s2.
-      without_double (is_double (map (λ (r : SaveRow). r.key) rows)) (first_again [] (map (λ (r : SaveRow). r.id) rows)) (of_object (slice_get schema.objects object) object rows) s2))
+      without_double (is_double (map (λ (r : SaveRow). r.key) rows)) (first_again [] (map (λ (r : SaveRow). r.id) rows)) (of_object (slice_get site.schema.objects object) object rows) s2))

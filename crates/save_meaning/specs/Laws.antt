@@ -1,17 +1,17 @@
 -- What is to be shown of saves.
 use Rattle.std.specs.Prelude.{◌≡◌, ◌&&◌, eqb, ℕ, List, min, length, filter}
-use Rattle.apex_schema.specs.declared.schema.Schema.{Schema}
-use Rattle.apex_schema.specs.declared.request.SaveRow.{SaveRow}
+use Rattle.apex_requests.specs.declared.request.SaveRow.{SaveRow}
 use Rattle.platform_errors.specs.declared.thrown.Thrown.{Thrown}
+use Rattle.save_meaning.specs.Sites.{Site}
 use Rattle.save_meaning.specs.Transactions.{Txn, Keeps, Stops, Throws}
 use Rattle.save_meaning.specs.Inserts.{insert}
 use Rattle.save_meaning.specs.Counts.{IsKeyed, count_of, count_most}
-use Rattle.apex_schema.specs.declared.query.Cond.{Cond}
-use Rattle.apex_schema.specs.declared.query.Cond.TheVariants.{All}
-use Rattle.apex_schema.specs.declared.row.Row.{Row}
-use Rattle.apex_schema.specs.Conds.{holds_of, local_part}
-use Rattle.apex_schema.specs.Overlays.{Overlay, over}
-use Rattle.apex_schema.specs.Stores.{answer}
+use Rattle.apex_rows.specs.declared.query.Cond.{Cond}
+use Rattle.apex_rows.specs.declared.query.Cond.TheVariants.{All}
+use Rattle.apex_rows.specs.declared.row.Row.{Row}
+use Rattle.row_meaning.specs.Conds.{holds_of, local_part}
+use Rattle.row_meaning.specs.Overlays.{Overlay, over}
+use Rattle.row_meaning.specs.Stores.{answer}
 
 -- a state that is nothing but what a save sees
 abbrev pub alone : Keeps Txn
@@ -20,8 +20,8 @@ alone = record { txn = λ t. t; with_txn = λ t s. t }
 -- an insert that throws leaves the overlay as it found it
 abbrev pub FailedInsertsChangeNothing : Type 0
 FailedInsertsChangeNothing =
-    (schema : Schema) (session request user object : ℕ) (rows : List SaveRow) (t later : Txn) (why : Thrown) →
-    insert alone schema session request user object rows t ≡ Stops (Throws why) later → later.overlay ≡ t.overlay
+    (site : Site) (object : ℕ) (rows : List SaveRow) (t later : Txn) (why : Thrown) →
+    insert alone site object rows t ≡ Stops (Throws why) later → later.overlay ≡ t.overlay
 
 -- what is counted over a store's answer is how many rows of the whole store, as the transaction sees it, meet the condition
 abbrev pub CountsAreOfTheWholeStore : Type 0

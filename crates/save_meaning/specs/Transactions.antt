@@ -3,9 +3,9 @@ use Rattle.std.specs.Prelude.{◌≡◌, ℕ, ◌+◌, Bool, true, false, List, 
 use Rattle.apex_num.specs.declared.kind.LimitKind.{LimitKind}
 use Rattle.limit_meter.specs.Charges.{Entry, Charged, limit_of, fits}
 use Rattle.platform_errors.specs.declared.thrown.Thrown.{Thrown}
-use Rattle.apex_schema.specs.declared.query.Question.{Question}
-use Rattle.apex_schema.specs.declared.query.Answer.{Answer}
-use Rattle.apex_schema.specs.Overlays.{Overlay}
+use Rattle.apex_rows.specs.declared.query.Question.{Question}
+use Rattle.apex_rows.specs.declared.query.Answer.{Answer}
+use Rattle.row_meaning.specs.Overlays.{Overlay}
 
 -- the part of a request's state that a save sees: what was changed, how many Ids were made, what was charged, newest first,
 -- and the answers that are left

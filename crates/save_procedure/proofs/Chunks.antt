@@ -6,14 +6,15 @@ use Rattle.std.specs.Prelude.{slice_get}
 use Rattle.apex_num.specs.declared.kind.LimitKind.TheVariants.{Steps}
 use Rattle.apex_schema.specs.declared.schema.Object.{Object}
 use Rattle.apex_schema.specs.declared.schema.Schema.{Schema}
-use Rattle.apex_schema.specs.declared.request.SaveRow.{SaveRow}
-use Rattle.apex_schema.specs.declared.request.Ticket.{Ticket}
+use Rattle.apex_requests.specs.declared.request.SaveRow.{SaveRow}
+use Rattle.apex_requests.specs.declared.request.Ticket.{Ticket}
+use Rattle.save_meaning.specs.Sites.{Site}
 use Rattle.save_meaning.specs.Inserts.{loaded}
-use Rattle.save_moves.specs.declared.run.Phase.TheVariants as P
-use Rattle.save_moves.specs.declared.run.SaveRun.{SaveRun}
-use Rattle.save_moves.specs.declared.run.Stage.TheVariants as S
-use Rattle.save_moves.specs.declared.run.TxnState.{TxnState}
-use Rattle.save_moves.specs.Moves.{Move, Goes, at, charged, load, with_object}
+use Rattle.save_meaning.specs.declared.run.Phase.TheVariants as P
+use Rattle.save_meaning.specs.declared.run.SaveRun.{SaveRun}
+use Rattle.save_meaning.specs.declared.run.Stage.TheVariants as S
+use Rattle.save_meaning.specs.declared.run.TxnState.{TxnState}
+use Rattle.save_meaning.specs.Moves.{Move, Goes, at, charged, load, with_object}
 use Rattle.save_procedure.specs.Chunks.{loaded_some}
 use Rattle.save_procedure.specs.Does.{IsMove, Does}
 use Rattle.save_procedure.specs.declared.moved.Moved.{Moved}
@@ -34,29 +35,31 @@ module _ {A : Type 0} where
       (cases_lt (length xs) n)
 
 -- a chunk that has a record is charged and loaded by the number of its records
-pub load_is : (schema : Schema) (session request user : ℕ) (rows : List SaveRow) (o : Object) (run : SaveRun) (w : TxnState) → run.rest ≡ rows → (rows ≡ [] → ⊥) → load schema session request user rows o run w ≡ loaded_some user o run w
-load_is schema session request user [] o run w is some = absurd (some refl)
-load_is schema session request user (r ∷ rs) o run w is some = ap (λ rows. by rows) (sym is) ∙ more
+pub load_is : (site : Site) (rows : List SaveRow) (o : Object) (run : SaveRun) (w : TxnState) → run.rest ≡ rows → (rows ≡ [] → ⊥) → load site rows o run w ≡ loaded_some site.ticket.user o run w
+load_is site [] o run w is some = absurd (some refl)
+load_is site (r ∷ rs) o run w is some = ap (λ rows. by rows) (sym is) ∙ more
   where
     by : List SaveRow → Move
     by rows =
-        charged Steps (length (take 200 rows)) w (λ v. Goes (record run { rest = drop 200 rows; stage = S.Enter P.Refer (loaded user run.object o (take 200 rows)) }) v)
+        charged Steps (length (take 200 rows)) w (λ v. Goes (record run { rest = drop 200 rows; stage = S.Enter P.Refer (loaded site.ticket.user run.object o (take 200 rows)) }) v)
 
     named : ℕ → List SaveRow → List SaveRow → Move
-    named n front back = charged Steps n w (λ v. Goes (record run { rest = back; stage = S.Enter P.Refer (loaded user run.object o front) }) v)
+    named n front back = charged Steps n w (λ v. Goes (record run { rest = back; stage = S.Enter P.Refer (loaded site.ticket.user run.object o front) }) v)
 
     count : length (take 200 run.rest) ≡ min (length run.rest) 200
     count = let t = length-take 200 run.rest in omega arith
 
-    more : by run.rest ≡ loaded_some user o run w
+    more : by run.rest ≡ loaded_some site.ticket.user o run w
     more =
         ap (λ n. named n (take 200 run.rest) (drop 200 run.rest)) count
         ∙ ap (λ xs. named (min (length run.rest) 200) xs (drop 200 run.rest)) (sym (take_least 200 run.rest))
         ∙ ap (λ xs. named (min (length run.rest) 200) (take (min (length run.rest) 200) run.rest) xs) (sym (drop_least 200 run.rest))
 
 -- so it is what the save does where it loads
-pub chunk_does : (schema : Schema) (ticket : Ticket) (o : Object) (run : SaveRun) (w : TxnState) (m : Moved) (v : TxnState) → slice_get schema.objects run.object ≡ Some o → (run.rest ≡ [] → ⊥) →
-    IsMove (at run S.Load) w (loaded_some ticket.user o run w) m v → Does schema ticket (at run S.Load) w m v
-chunk_does schema ticket o run w m v e some h =
-    subst (λ next. IsMove (at run S.Load) w next m v)
-    (sym (ap (λ x. with_object schema ticket.session ticket.index ticket.user x (load schema ticket.session ticket.index ticket.user run.rest) (at run S.Load) w) e ∙ load_is schema ticket.session ticket.index ticket.user run.rest o (at run S.Load) w refl some)) h
+pub chunk_does : (schema : Schema) (ticket : Ticket) (o : Object) (run : SaveRun) (w : TxnState) (m : Moved) (r : SaveRun) (v : TxnState) → slice_get schema.objects run.object ≡ Some o → (run.rest ≡ [] → ⊥) →
+    IsMove (at run S.Load) w (loaded_some ticket.user o run w) m r v → Does schema ticket (at run S.Load) w m r v
+chunk_does schema ticket o run w m r v e some h =
+    subst (λ next. IsMove (at run S.Load) w next m r v)
+    (sym (ap (λ x. with_object site x (load site run.rest) (at run S.Load) w) e ∙ load_is site run.rest o (at run S.Load) w refl some)) h where
+      site : Site
+      site = record { schema = schema; ticket = ticket }

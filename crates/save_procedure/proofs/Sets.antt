@@ -9,10 +9,10 @@ use Rattle.std.specs.declared.cmp.Ordering.TheVariants.{Less, Equal, Greater}
 use Rattle.apex_num.specs.declared.cell.Cell.{Cell}
 use Rattle.apex_num.specs.declared.cell.Cell.TheVariants as C
 use Rattle.apex_schema.specs.declared.schema.Object.{Object}
-use Rattle.apex_schema.specs.declared.request.SaveRow.{SaveRow}
-use Rattle.apex_schema.specs.declared.row.Row.{Row}
-use Rattle.apex_schema.specs.Cells.{bytes_cmp}
-use Rattle.apex_schema.specs.Stores.{has_id}
+use Rattle.apex_requests.specs.declared.request.SaveRow.{SaveRow}
+use Rattle.apex_rows.specs.declared.row.Row.{Row}
+use Rattle.row_meaning.specs.Cells.{bytes_cmp}
+use Rattle.row_meaning.specs.Stores.{has_id}
 use Rattle.save_meaning.specs.Drafts.{with_id, with_id_by, dangles}
 use Rattle.save_meaning.specs.Inserts.{is_double, first_again, or_seen, ids_of}
 use Rattle.record_ids.specs.Ids.{IsPrefix}

@@ -7,7 +7,7 @@ use Rattle.std.proofs.lemmas.Bool.Decides.{eqb_tells}
 use Rattle.std.proofs.lemmas.Slice.Eq.{bytes_eq-Decides}
 use Rattle.apex_num.specs.declared.cell.Cell.{Cell}
 use Rattle.apex_num.specs.declared.cell.Cell.TheVariants as C
-use Rattle.apex_schema.specs.Users.{user_id}
+use Rattle.row_meaning.specs.Users.{user_id}
 use Rattle.record_ids.specs.Ids.{most, IsUserNumber}
 use Rattle.save_meaning.specs.Drafts.{is_user}
 

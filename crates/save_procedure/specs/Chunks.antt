@@ -3,11 +3,11 @@ use Rattle.std.specs.Prelude.{ℕ, min, length, take, drop}
 use Rattle.apex_num.specs.declared.kind.LimitKind.TheVariants.{Steps}
 use Rattle.apex_schema.specs.declared.schema.Object.{Object}
 use Rattle.save_meaning.specs.Inserts.{loaded}
-use Rattle.save_moves.specs.declared.run.Phase.TheVariants as P
-use Rattle.save_moves.specs.declared.run.SaveRun.{SaveRun}
-use Rattle.save_moves.specs.declared.run.Stage.TheVariants as S
-use Rattle.save_moves.specs.declared.run.TxnState.{TxnState}
-use Rattle.save_moves.specs.Moves.{Move, Goes, charged}
+use Rattle.save_meaning.specs.declared.run.Phase.TheVariants as P
+use Rattle.save_meaning.specs.declared.run.SaveRun.{SaveRun}
+use Rattle.save_meaning.specs.declared.run.Stage.TheVariants as S
+use Rattle.save_meaning.specs.declared.run.TxnState.{TxnState}
+use Rattle.save_meaning.specs.Moves.{Move, Goes, charged}
 
 -- so many records, where they are charged
 abbrev pub loaded_some : ℕ → Object → SaveRun → TxnState → Move

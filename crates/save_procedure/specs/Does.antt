@@ -4,35 +4,35 @@ use Rattle.apex_num.specs.declared.kind.LimitKind.TheVariants.{Steps, Alloc}
 use Rattle.limit_meter.specs.Charges.{count_of}
 use Rattle.apex_schema.specs.declared.schema.Object.{Object}
 use Rattle.apex_schema.specs.declared.schema.Schema.{Schema}
-use Rattle.apex_schema.specs.declared.query.Question.{Question}
-use Rattle.apex_schema.specs.declared.query.Question.TheVariants.{Read, Grab}
-use Rattle.apex_schema.specs.declared.request.Ticket.{Ticket}
+use Rattle.apex_rows.specs.declared.query.Question.{Question}
+use Rattle.apex_rows.specs.declared.query.Question.TheVariants.{Read, Grab}
+use Rattle.apex_requests.specs.declared.request.Ticket.{Ticket}
 use Rattle.record_ids.specs.Ids.{IsPrefix, most}
 use Rattle.save_meaning.specs.Inserts.{chunk_most}
-use Rattle.save_moves.specs.declared.run.Phase.{Phase}
-use Rattle.save_moves.specs.declared.run.Phase.TheVariants as P
-use Rattle.save_moves.specs.declared.run.Stage.{Stage}
-use Rattle.save_moves.specs.declared.run.Stage.TheVariants as S
-use Rattle.save_moves.specs.declared.run.SaveRun.{SaveRun}
-use Rattle.save_moves.specs.declared.run.TxnState.{TxnState}
-use Rattle.save_moves.specs.Moves.{Move, Goes, Asks, Done, Throws, Halts, move}
+use Rattle.save_meaning.specs.declared.run.Phase.{Phase}
+use Rattle.save_meaning.specs.declared.run.Phase.TheVariants as P
+use Rattle.save_meaning.specs.declared.run.Stage.{Stage}
+use Rattle.save_meaning.specs.declared.run.Stage.TheVariants as S
+use Rattle.save_meaning.specs.declared.run.SaveRun.{SaveRun}
+use Rattle.save_meaning.specs.declared.run.TxnState.{TxnState}
+use Rattle.save_meaning.specs.Moves.{Move, Goes, Asks, Done, Throws, Halts, move}
 use Rattle.save_procedure.specs.declared.moved.Moved.{Moved}
 use Rattle.save_procedure.specs.declared.moved.Moved.TheVariants as M
 use Rattle.save_procedure.specs.declared.run.Stopped.{Stopped}
 use Rattle.save_procedure.specs.declared.run.Stopped.TheVariants as E
 
--- from a run and a state, what was said of a move, and the state behind it; a run that waits for an answer is as it was, and
--- so is the state
-abbrev pub IsMove : SaveRun → TxnState → Move → Moved → TxnState → Type 0
-IsMove run w next (M.Went r) v = next ≡ Goes r v
-IsMove run w next (M.Asked q r) v = (next ≡ Asks q) × (r ≡ run) × (v ≡ w)
-IsMove run w next (M.Saved ids) v = next ≡ Done ids v
-IsMove run w next (M.Threw why) v = next ≡ Throws why v
-IsMove run w next (M.Halted limit) v = next ≡ Halts limit.kind limit.number v
+-- from a run and a state, the next move, what was said of it, and the run and the state behind it; where it asks, both are as
+-- they were
+abbrev pub IsMove : SaveRun → TxnState → Move → Moved → SaveRun → TxnState → Type 0
+IsMove run w next M.Went r v = next ≡ Goes r v
+IsMove run w next (M.Asked q) r v = (next ≡ Asks q) × (r ≡ run) × (v ≡ w)
+IsMove run w next (M.Saved ids) r v = next ≡ Done ids v
+IsMove run w next (M.Threw why) r v = next ≡ Throws why v
+IsMove run w next (M.Halted limit) r v = next ≡ Halts limit.kind limit.number v
 
 -- it is the move that a save of this request makes
-abbrev pub Does : Schema → Ticket → SaveRun → TxnState → Moved → TxnState → Type 0
-Does schema ticket run w m v = IsMove run w (move schema ticket.session ticket.index ticket.user run w) m v
+abbrev pub Does : Schema → Ticket → SaveRun → TxnState → Moved → SaveRun → TxnState → Type 0
+Does schema ticket run w m r v = IsMove run w (move (record { schema = schema; ticket = ticket }) run w) m r v
 
 -- ---- what moves count on
 
@@ -76,18 +76,18 @@ IsRead (Read object cond) = Unit {0}
 IsRead (Grab ids) = ⊥
 
 abbrev pub AsksRead : Stopped → Type 0
-AsksRead (E.Asked q run) = IsRead q
+AsksRead (E.Asked q) = IsRead q
 AsksRead _ = Unit {0}
 
 abbrev pub moved_of : Stopped → Moved
-moved_of (E.Asked q run) = M.Asked q run
+moved_of (E.Asked q) = M.Asked q
 moved_of (E.Saved ids) = M.Saved ids
 moved_of (E.Threw why) = M.Threw why
 moved_of (E.Halted limit) = M.Halted limit
 
 module _ (schema : Schema) (ticket : Ticket) where
   abbrev pub next_move : SaveRun → TxnState → Move
-  next_move run w = move schema ticket.session ticket.index ticket.user run w
+  next_move run w = move (record { schema = schema; ticket = ticket }) run w
 
   -- so many moves go on, from the first to the last of these
   abbrev pub GoesOn : ℕ → SaveRun → TxnState → SaveRun → TxnState → Type 0
@@ -95,12 +95,12 @@ module _ (schema : Schema) (ticket : Ticket) where
   GoesOn (suc n) run w last v = (mid : SaveRun) × (u : TxnState) × (next_move run w ≡ Goes mid u) × GoesOn n mid u last v
 
   -- some moves go on, and the one behind them stops
-  pub record Advances (run : SaveRun) (w : TxnState) (stopped : Stopped) (v : TxnState) : Type 0 where
+  pub record Advances (run : SaveRun) (w : TxnState) (stopped : Stopped) (r : SaveRun) (v : TxnState) : Type 0 where
     pub moves : ℕ
     pub last : SaveRun
     pub before : TxnState
     pub goes : GoesOn moves run w last before
-    pub stops : IsMove last before (next_move last before) (moved_of stopped) v
+    pub stops : IsMove last before (next_move last before) (moved_of stopped) r v
     pub still : IsPaid last before
     pub paid : Paid v
     pub reads : AsksRead stopped

@@ -1,6 +1,6 @@
 -- What is looked at for records that stand twice.
 use Rattle.std.specs.Prelude.{ℕ, List, map, Option}
-use Rattle.apex_schema.specs.declared.request.SaveRow.{SaveRow}
+use Rattle.apex_requests.specs.declared.request.SaveRow.{SaveRow}
 
 abbrev pub keys_of : List SaveRow → List ℕ
 keys_of rows = map (λ (r : SaveRow). r.key) rows

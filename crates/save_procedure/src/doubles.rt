@@ -6,7 +6,7 @@ ghost use Rattle.save_meaning.specs.Inserts.{is_double, first_again};
 ghost use Rattle.save_procedure.specs.Keys.{keys_of, ids_given};
 
 use apex_num::{Id, NoMemory};
-use apex_schema::SaveRow;
+use apex_requests::SaveRow;
 use indexmap::IndexSet;
 use std::alloc::{AllocError, Global};
 

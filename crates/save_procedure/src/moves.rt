@@ -1,44 +1,51 @@
 // The moves, one function for each stage.
 
-ghost use Rattle.std.specs.Prelude.{◌≡◌, ◌≤◌, ◌<◌, ◌+◌, ◌*◌, ◌++◌, ◌∷◌, [], suc, pos, length, slice_get, Some, IfOk};
+ghost use Rattle.std.specs.Prelude.{◌≡◌, ◌≤◌, ◌<◌, ◌+◌, ◌*◌, ◌++◌, ◌∷◌, [], suc, pos, length, slice_get, Some, IfOk, OnOk};
 ghost use Rattle.std.specs.Option.{option_copied};
 ghost use Rattle.apex_num.specs.declared.kind.LimitKind.TheVariants.{Dml, Steps, Alloc};
 ghost use Rattle.limit_meter.specs.Charges.{count_of};
 ghost use Rattle.apex_schema.specs.declared.schema.Schema.{Schema as Tenant};
-ghost use Rattle.apex_schema.specs.declared.request.Ticket.{Ticket as Place};
-ghost use Rattle.apex_schema.specs.Overlays.{merged};
+ghost use Rattle.apex_requests.specs.declared.request.Ticket.{Ticket as Place};
+ghost use Rattle.row_meaning.specs.Overlays.{merged};
 ghost use Rattle.record_ids.specs.Ids.{IsPrefix, most};
 ghost use Rattle.save_meaning.specs.declared.draft.Draft.TheVariants.{Going};
 ghost use Rattle.save_meaning.specs.Drafts.{going, first_wrong};
 ghost use Rattle.save_meaning.specs.Inserts as inserts;
-ghost use Rattle.save_moves.specs.declared.run.Stage.TheVariants as S;
-ghost use Rattle.save_moves.specs.Moves as spec;
-ghost use Rattle.save_moves.specs.Moves.{Goes, charged};
+ghost use Rattle.save_meaning.specs.declared.run.Stage.TheVariants as S;
+ghost use Rattle.save_meaning.specs.Moves as spec;
+ghost use Rattle.save_meaning.specs.Moves.{Goes, charged};
+ghost use Rattle.save_meaning.specs.Drafts.{by_ids as ids_wanted};
 ghost use Rattle.save_procedure.specs.Chunks.{loaded_some};
+ghost use Rattle.save_procedure.specs.declared.moved.Moved.TheVariants as M;
 ghost use Rattle.save_procedure.specs.Does.{IsMove, Does, IsSound, HasIds};
 
 use crate::charges::charge_items;
 use crate::doubles::{first_double_id, has_double};
-use crate::moved::{Moved, at};
+use crate::moved::Moved;
 use crate::references::{by_ids, judge_references, judge_rows, references, wanted};
 use crate::written::{count_going, next_id, settled, stacked, written};
-use apex_list::{Items, Stack};
-use apex_num::{LimitKind, NoMemory};
-use apex_schema::{Answer, Object, Op, Question, Row, Schema, Ticket};
+use apex_list::{Boxed, Items, Stack};
+use apex_num::{Id, LimitKind, NoMemory};
+use apex_requests::{Op, Ticket};
+use apex_rows::{Answer, Question, Row};
+use apex_schema::{Object, Schema};
 use platform_errors::Thrown;
 use record_drafts::load_records;
-use save_meaning::{Draft, Reference};
-use save_moves::{Finding, Phase, SaveRun, Stage, TxnState};
+use save_meaning::{Draft, Finding, Phase, Reference, SaveRun, Stage, TxnState};
 use std::alloc::{AllocError, Global};
+use std::mem::replace;
 
 // ---- how a statement begins and ends
 
 // The statement is charged.
-pub fn charge(run: SaveRun, txn: &mut TxnState) -> Moved
-    ensures { IsMove (spec.at run S.Charge) txn.old (charged Dml 1 txn.old (λ v. Goes (spec.at run S.Count) v)) result txn.new }
+pub fn charge(run: &mut SaveRun, txn: &mut TxnState) -> Moved
+    ensures { IsMove (spec.at run.old S.Charge) txn.old (charged Dml 1 txn.old (λ v. Goes (spec.at run.old S.Count) v)) result run.new txn.new }
 {
     match txn.meter.charge(LimitKind::Dml, 1) {
-        Ok(()) => Moved::Went(at(run, Stage::Count)),
+        Ok(()) => {
+            run.stage = Stage::Count;
+            Moved::Went
+        }
         Err(limit) => Moved::Halted(limit),
     }
 }
@@ -47,16 +54,17 @@ pub fn charge(run: SaveRun, txn: &mut TxnState) -> Moved
 fn begin(
     alloc: Global,
     object: Option<&Object>,
-    run: SaveRun,
+    run: &mut SaveRun,
     txn: &mut TxnState,
 ) -> Result<Moved, NoMemory>
-    ensures { IfOk result (λ m. IsMove (spec.at run S.Count) txn.old (spec.begun (option_copied object.entry) run txn.old) m txn.new) }
+    ensures { IfOk result (λ m. IsMove (spec.at run.old S.Count) txn.old (spec.begun (option_copied object.entry) run.old txn.old) m run.new txn.new) }
 {
     match object {
         None => Ok(Moved::Saved(Items::new(alloc))),
         Some(_) => {
             txn.overlay.save()?;
-            Ok(Moved::Went(at(run, Stage::Load)))
+            run.stage = Stage::Load;
+            Ok(Moved::Went)
         }
     }
 }
@@ -66,10 +74,10 @@ pub fn count(
     alloc: Global,
     schema: &Schema,
     ticket: Ticket,
-    run: SaveRun,
+    run: &mut SaveRun,
     txn: &mut TxnState,
 ) -> Result<Moved, NoMemory>
-    ensures { IfOk result (λ m. Does schema.now ticket (spec.at run S.Count) txn.old m txn.new) }
+    ensures { IfOk result (λ m. Does schema.now ticket (spec.at run.old S.Count) txn.old m run.new txn.new) }
 {
     match txn.meter.charge(LimitKind::Saved, run.rest.len() as u64) {
         Err(limit) => Ok(Moved::Halted(limit)),
@@ -87,16 +95,10 @@ pub fn count(
 }
 
 // It ends, and what it changed stays.
-fn done(run: SaveRun, txn: &mut TxnState) -> Moved
-    ensures { IsMove run txn.old (spec.done run txn.old) result txn.new }
+fn done(alloc: Global, run: &mut SaveRun, txn: &mut TxnState) -> Moved
+    ensures { IsMove run.old txn.old (spec.done run.old txn.old) result run.new txn.new }
 {
-    let SaveRun {
-        object: _,
-        rest: _,
-        place: _,
-        ids,
-        stage: _,
-    } = run;
+    let ids = replace(&mut run.ids, Items::new(alloc));
     txn.overlay.keep();
     Moved::Saved(ids)
 }
@@ -108,33 +110,21 @@ fn load_some(
     alloc: Global,
     ticket: Ticket,
     object: &Object,
-    run: SaveRun,
+    run: &mut SaveRun,
     txn: &mut TxnState,
 ) -> Result<Moved, NoMemory>
     requires user { suc ticket.user < most }
-    ensures { IfOk result (λ m. IsMove (spec.at run S.Load) txn.old (loaded_some ticket.user object.now run txn.old) m txn.new) }
+    ensures { IfOk result (λ m. IsMove (spec.at run.old S.Load) txn.old (loaded_some ticket.user object.now run.old txn.old) m run.new txn.new) }
 {
-    let SaveRun {
-        object: number,
-        rest,
-        place,
-        ids,
-        stage: _,
-    } = run;
-    let mut rows = rest.into_vec();
+    let mut rows = replace(&mut run.rest, Items::new(alloc)).into_vec();
     let size = rows.len().min(200);
     match txn.meter.charge(LimitKind::Steps, size as u64) {
         Err(limit) => Ok(Moved::Halted(limit)),
         Ok(()) => {
-            let rest = rows.split_off(size)?;
-            let drafts = load_records(alloc, ticket.user, number, object, rows.as_slice())?;
-            Ok(Moved::Went(SaveRun {
-                object: number,
-                rest: Items::of(rest),
-                place,
-                ids,
-                stage: Stage::Enter(Phase::Refer, drafts),
-            }))
+            run.rest = Items::of(rows.split_off(size)?);
+            let drafts = load_records(alloc, ticket.user, run.object, object, rows.as_slice())?;
+            run.stage = Stage::Enter(Phase::Refer, drafts);
+            Ok(Moved::Went)
         }
     }
 }
@@ -145,15 +135,15 @@ fn load_chunk(
     schema: &Schema,
     ticket: Ticket,
     object: &Object,
-    run: SaveRun,
+    run: &mut SaveRun,
     txn: &mut TxnState,
 ) -> Result<Moved, NoMemory>
-    requires object { slice_get schema.now.objects run.object ≡ Some object.now }
+    requires object { slice_get schema.now.objects run.old.object ≡ Some object.now }
     requires user { suc ticket.user < most }
-    ensures { IfOk result (λ m. Does schema.now ticket (spec.at run S.Load) txn.old m txn.new) }
+    ensures { IfOk result (λ m. Does schema.now ticket (spec.at run.old S.Load) txn.old m run.new txn.new) }
 {
     if run.rest.is_empty() {
-        return Ok(done(run, txn));
+        return Ok(done(alloc, run, txn));
     }
     let moved = load_some(alloc, ticket, object, run, txn)?;
     Ok(moved)
@@ -164,14 +154,14 @@ pub fn load(
     alloc: Global,
     schema: &Schema,
     ticket: Ticket,
-    run: SaveRun,
+    run: &mut SaveRun,
     txn: &mut TxnState,
 ) -> Result<Moved, NoMemory>
     requires ids { HasIds ticket }
-    ensures { IfOk result (λ m. Does schema.now ticket (spec.at run S.Load) txn.old m txn.new) }
+    ensures { IfOk result (λ m. Does schema.now ticket (spec.at run.old S.Load) txn.old m run.new txn.new) }
 {
     match schema.objects.get(run.object) {
-        None => Ok(done(run, txn)),
+        None => Ok(done(alloc, run, txn)),
         Some(object) => load_chunk(alloc, schema, ticket, object, run, txn),
     }
 }
@@ -191,15 +181,19 @@ fn behind(phase: Phase, drafts: Items<Draft>) -> Stage
 }
 
 /// The rows that go on enter a phase, a step each; where there are none it is passed over.
-pub fn enter(run: SaveRun, phase: Phase, drafts: Items<Draft>, txn: &mut TxnState) -> Moved
-    ensures { IsMove (spec.at run (S.Enter phase drafts)) txn.old (spec.entered (going drafts) phase drafts run txn.old) result txn.new }
+pub fn enter(run: &mut SaveRun, phase: Phase, drafts: Items<Draft>, txn: &mut TxnState) -> Moved
+    ensures { IsMove (spec.at run.old (S.Enter phase drafts)) txn.old (spec.entered (going drafts) phase drafts run.old txn.old) result run.new txn.new }
 {
     let count = count_going(drafts.as_slice());
     if count == 0 {
-        return Moved::Went(at(run, behind(phase, drafts)));
+        run.stage = behind(phase, drafts);
+        return Moved::Went;
     }
     match txn.meter.charge(LimitKind::Steps, count as u64) {
-        Ok(()) => Moved::Went(at(run, Stage::Inside(phase, drafts))),
+        Ok(()) => {
+            run.stage = Stage::Inside(phase, drafts);
+            Moved::Went
+        }
         Err(limit) => Moved::Halted(limit),
     }
 }
@@ -217,15 +211,15 @@ fn do_phase(
     schema: &Schema,
     ticket: Ticket,
     object: &Object,
-    run: SaveRun,
+    run: &mut SaveRun,
     phase: Phase,
     drafts: Items<Draft>,
     txn: &TxnState,
 ) -> Result<Moved, NoMemory>
-    requires object { slice_get schema.now.objects run.object ≡ Some object.now }
-    ensures { IfOk result (λ m. Does schema.now ticket (spec.at run (S.Inside phase drafts)) txn.entry.now m txn.entry.now) }
+    requires object { slice_get schema.now.objects run.old.object ≡ Some object.now }
+    ensures { IfOk result (λ m. Does schema.now ticket (spec.at run.old (S.Inside phase drafts)) txn.entry.now m run.new txn.entry.now) }
 {
-    let stage = match phase {
+    run.stage = match phase {
         Phase::Refer => {
             let refs = references(alloc, object.fields.as_slice())?;
             Stage::Find(drafts, refs, Items::new(alloc))
@@ -237,7 +231,7 @@ fn do_phase(
         Phase::Write => Stage::Write(Items::new(alloc), stacked(alloc, drafts)?),
         Phase::Before | Phase::After | Phase::RollUp => behind(phase, drafts),
     };
-    Ok(Moved::Went(at(run, stage)))
+    Ok(Moved::Went)
 }
 
 /// The rows are in a phase.
@@ -245,15 +239,15 @@ pub fn inside(
     alloc: Global,
     schema: &Schema,
     ticket: Ticket,
-    run: SaveRun,
+    run: &mut SaveRun,
     phase: Phase,
     drafts: Items<Draft>,
     txn: &mut TxnState,
 ) -> Result<Moved, NoMemory>
-    ensures { IfOk result (λ m. Does schema.now ticket (spec.at run (S.Inside phase drafts)) txn.old m txn.new) }
+    ensures { IfOk result (λ m. Does schema.now ticket (spec.at run.old (S.Inside phase drafts)) txn.old m run.new txn.new) }
 {
     match schema.objects.get(run.object) {
-        None => Ok(done(run, txn)),
+        None => Ok(done(alloc, run, txn)),
         Some(object) => do_phase(alloc, schema, ticket, object, run, phase, drafts, txn),
     }
 }
@@ -262,23 +256,29 @@ pub fn inside(
 
 // With the rows that the first reference may name.
 fn found_more(
-    run: SaveRun,
+    run: &mut SaveRun,
     drafts: Items<Draft>,
     reference: Reference,
     refs: Stack<Reference>,
     found: Items<Finding>,
     answered: Vec<Row>,
     txn: &TxnState,
-) -> Result<SaveRun, NoMemory>
-    ensures { IfOk result (λ r. r ≡ spec.at run (S.Find drafts refs (found ++ record { reference = reference; rows = merged txn.now.overlay.now reference.to answered.items } ∷ []))) }
+) -> Result<(), NoMemory>
+    ensures { OnOk result (run.new ≡ spec.at run.old (S.Find drafts refs (found ++ record { reference = reference; rows = merged txn.now.overlay.now reference.to answered.items } ∷ []))) }
 {
     let mut found = found;
-    let rows = txn.overlay.overlay().merge(reference.to, answered)?;
-    found.push(Finding {
-        reference,
-        rows: Items::of(rows),
-    })?;
-    Ok(at(run, Stage::Find(drafts, refs, found)))
+    let rows = Items::of(txn.overlay.overlay().merge(reference.to, answered)?);
+    found.push(Finding { reference, rows })?;
+    run.stage = Stage::Find(drafts, refs, found);
+    Ok(())
+}
+
+// The rows with these Ids are asked for.
+fn ask_for(alloc: Global, object: usize, ids: Vec<Id>) -> Result<Moved, NoMemory>
+    ensures { IfOk result (λ m. m ≡ M.Asked (Question.Read object (ids_wanted ids.items))) }
+{
+    let cond = Boxed::new(alloc, by_ids(alloc, ids)?)?;
+    Ok(Moved::Asked(Question::Read { object, cond }))
 }
 
 // The rows of a reference are asked for, unless there is no Id to look for.
@@ -287,34 +287,28 @@ fn find_one(
     schema: &Schema,
     ticket: Ticket,
     object: &Object,
-    run: SaveRun,
+    run: &mut SaveRun,
     drafts: Items<Draft>,
     reference: Reference,
     refs: Stack<Reference>,
     found: Items<Finding>,
     txn: &TxnState,
 ) -> Result<Moved, NoMemory>
-    requires object { slice_get schema.now.objects run.object ≡ Some object.now }
-    ensures { IfOk result (λ m. Does schema.now ticket (spec.at run (S.Find drafts (reference ∷ refs) found)) txn.now m txn.now) }
+    requires object { slice_get schema.now.objects run.old.object ≡ Some object.now }
+    ensures { IfOk result (λ m. Does schema.now ticket (spec.at run.old (S.Find drafts (reference ∷ refs) found)) txn.now m run.new txn.now) }
 {
-    let ids = wanted(
-        alloc,
-        txn.overlay.overlay(),
-        reference.field,
-        drafts.as_slice(),
-    )?;
+    let overlay = txn.overlay.overlay();
+    let ids = wanted(alloc, overlay, reference.field, drafts.as_slice())?;
     if ids.is_empty() {
         let none = Vec::new(alloc);
-        let run = found_more(run, drafts, reference, refs, found, none, txn)?;
-        return Ok(Moved::Went(run));
+        found_more(run, drafts, reference, refs, found, none, txn)?;
+        return Ok(Moved::Went);
     }
-    let question = Question::Read {
-        object: reference.to,
-        cond: by_ids(alloc, ids)?,
-    };
+    let to = reference.to;
     let mut refs = refs;
     refs.push(reference)?;
-    Ok(Moved::Asked(question, at(run, Stage::Find(drafts, refs, found))))
+    run.stage = Stage::Find(drafts, refs, found);
+    ask_for(alloc, to, ids)
 }
 
 // The next reference is looked up, or what was found is held against the records.
@@ -323,22 +317,23 @@ fn find_next(
     schema: &Schema,
     ticket: Ticket,
     object: &Object,
-    run: SaveRun,
+    run: &mut SaveRun,
     drafts: Items<Draft>,
     refs: Stack<Reference>,
     found: Items<Finding>,
     txn: &TxnState,
 ) -> Result<Moved, NoMemory>
-    requires object { slice_get schema.now.objects run.object ≡ Some object.now }
+    requires object { slice_get schema.now.objects run.old.object ≡ Some object.now }
     requires users { length schema.now.users < most }
-    ensures { IfOk result (λ m. Does schema.now ticket (spec.at run (S.Find drafts refs found)) txn.now m txn.now) }
+    ensures { IfOk result (λ m. Does schema.now ticket (spec.at run.old (S.Find drafts refs found)) txn.now m run.new txn.now) }
 {
     let mut refs = refs;
     match refs.pop() {
         None => {
             let users = schema.users.len();
             let drafts = judge_references(alloc, users, object.fields.as_slice(), found, drafts)?;
-            Ok(Moved::Went(at(run, behind(Phase::Refer, drafts))))
+            run.stage = behind(Phase::Refer, drafts);
+            Ok(Moved::Went)
         }
         Some(reference) => find_one(
             alloc, schema, ticket, object, run, drafts, reference, refs, found, txn,
@@ -351,17 +346,17 @@ pub fn find(
     alloc: Global,
     schema: &Schema,
     ticket: Ticket,
-    run: SaveRun,
+    run: &mut SaveRun,
     drafts: Items<Draft>,
     refs: Stack<Reference>,
     found: Items<Finding>,
     txn: &mut TxnState,
 ) -> Result<Moved, NoMemory>
     requires sound { IsSound schema.now }
-    ensures { IfOk result (λ m. Does schema.now ticket (spec.at run (S.Find drafts refs found)) txn.old m txn.new) }
+    ensures { IfOk result (λ m. Does schema.now ticket (spec.at run.old (S.Find drafts refs found)) txn.old m run.new txn.new) }
 {
     match schema.objects.get(run.object) {
-        None => Ok(done(run, txn)),
+        None => Ok(done(alloc, run, txn)),
         Some(object) => find_next(alloc, schema, ticket, object, run, drafts, refs, found, txn),
     }
 }
@@ -379,7 +374,7 @@ fn rows_of(alloc: Global, answer: Answer) -> Vec<Row>
 /// The rows that a reference may name are there.
 pub fn answered(
     alloc: Global,
-    run: SaveRun,
+    run: &mut SaveRun,
     drafts: Items<Draft>,
     reference: Reference,
     refs: Stack<Reference>,
@@ -387,11 +382,11 @@ pub fn answered(
     answer: Answer,
     txn: &mut TxnState,
 ) -> Result<Moved, NoMemory>
-    ensures { IfOk result (λ m. (tenant : Tenant) (place : Place) → Does tenant place (spec.at run (S.Answered drafts reference refs found answer)) txn.old m txn.new) }
+    ensures { IfOk result (λ m. (tenant : Tenant) (place : Place) → Does tenant place (spec.at run.old (S.Answered drafts reference refs found answer)) txn.old m run.new txn.new) }
 {
     let rows = rows_of(alloc, answer);
-    let run = found_more(run, drafts, reference, refs, found, rows, txn)?;
-    Ok(Moved::Went(run))
+    found_more(run, drafts, reference, refs, found, rows, txn)?;
+    Ok(Moved::Went)
 }
 
 // ---- writing
@@ -402,17 +397,17 @@ fn write_row(
     schema: &Schema,
     ticket: Ticket,
     object: &Object,
-    run: SaveRun,
+    run: &mut SaveRun,
     before: Items<Draft>,
     row: Row,
     left: Stack<Draft>,
     txn: &mut TxnState,
 ) -> Result<Moved, NoMemory>
-    requires object { slice_get schema.now.objects run.object ≡ Some object.now }
+    requires object { slice_get schema.now.objects run.old.object ≡ Some object.now }
     requires prefix { IsPrefix object.now.prefix }
     requires ids { HasIds ticket }
     requires paid { 64 * txn.old.minted ≤ count_of txn.old.meter Alloc }
-    ensures { IfOk result (λ m. Does schema.now ticket (spec.at run (S.Write before (Going row ∷ left))) txn.old m txn.new) }
+    ensures { IfOk result (λ m. Does schema.now ticket (spec.at run.old (S.Write before (Going row ∷ left))) txn.old m run.new txn.new) }
 {
     match charge_items(&mut txn.meter, 64, 32, object.fields.len()) {
         Err(limit) => Ok(Moved::Halted(limit)),
@@ -423,7 +418,8 @@ fn write_row(
             txn.minted += 1;
             let mut before = before;
             before.push(Draft::Going(row))?;
-            Ok(Moved::Went(at(run, Stage::Write(before, left))))
+            run.stage = Stage::Write(before, left);
+            Ok(Moved::Went)
         }
     }
 }
@@ -434,24 +430,28 @@ fn write_next(
     schema: &Schema,
     ticket: Ticket,
     object: &Object,
-    run: SaveRun,
+    run: &mut SaveRun,
     before: Items<Draft>,
     left: Stack<Draft>,
     txn: &mut TxnState,
 ) -> Result<Moved, NoMemory>
-    requires object { slice_get schema.now.objects run.object ≡ Some object.now }
+    requires object { slice_get schema.now.objects run.old.object ≡ Some object.now }
     requires prefix { IsPrefix object.now.prefix }
     requires ids { HasIds ticket }
     requires paid { 64 * txn.old.minted ≤ count_of txn.old.meter Alloc }
-    ensures { IfOk result (λ m. Does schema.now ticket (spec.at run (S.Write before left)) txn.old m txn.new) }
+    ensures { IfOk result (λ m. Does schema.now ticket (spec.at run.old (S.Write before left)) txn.old m run.new txn.new) }
 {
     let mut left = left;
     match left.pop() {
-        None => Ok(Moved::Went(at(run, behind(Phase::Write, before)))),
+        None => {
+            run.stage = behind(Phase::Write, before);
+            Ok(Moved::Went)
+        }
         Some(Draft::Wrong(error)) => {
             let mut before = before;
             before.push(Draft::Wrong(error))?;
-            Ok(Moved::Went(at(run, Stage::Write(before, left))))
+            run.stage = Stage::Write(before, left);
+            Ok(Moved::Went)
         }
         Some(Draft::Going(row)) => {
             write_row(alloc, schema, ticket, object, run, before, row, left, txn)
@@ -464,7 +464,7 @@ pub fn write(
     alloc: Global,
     schema: &Schema,
     ticket: Ticket,
-    run: SaveRun,
+    run: &mut SaveRun,
     before: Items<Draft>,
     left: Stack<Draft>,
     txn: &mut TxnState,
@@ -472,10 +472,10 @@ pub fn write(
     requires sound { IsSound schema.now }
     requires ids { HasIds ticket }
     requires paid { 64 * txn.old.minted ≤ count_of txn.old.meter Alloc }
-    ensures { IfOk result (λ m. Does schema.now ticket (spec.at run (S.Write before left)) txn.old m txn.new) }
+    ensures { IfOk result (λ m. Does schema.now ticket (spec.at run.old (S.Write before left)) txn.old m run.new txn.new) }
 {
     match schema.objects.get(run.object) {
-        None => Ok(done(run, txn)),
+        None => Ok(done(alloc, run, txn)),
         Some(object) => write_next(alloc, schema, ticket, object, run, before, left, txn),
     }
 }
@@ -492,27 +492,25 @@ fn number_of(at: usize) -> Result<i64, NoMemory>
 }
 
 /// The chunk ends, and where a record is wrong so does the statement.
-pub fn settle(run: SaveRun, drafts: Items<Draft>, txn: &mut TxnState) -> Result<Moved, NoMemory>
-    requires paid { run.place + 200 ≤ 200 * count_of txn.old.meter Steps }
-    ensures { IfOk result (λ m. IsMove (spec.at run (S.Settle drafts)) txn.old (spec.settled (first_wrong run.place drafts) drafts run txn.old) m txn.new) }
+pub fn settle(
+    alloc: Global,
+    run: &mut SaveRun,
+    drafts: Items<Draft>,
+    txn: &mut TxnState,
+) -> Result<Moved, NoMemory>
+    requires paid { run.old.place + 200 ≤ 200 * count_of txn.old.meter Steps }
+    ensures { IfOk result (λ m. IsMove (spec.at run.old (S.Settle drafts)) txn.old (spec.settled (first_wrong run.old.place drafts) drafts run.old txn.old) m run.new txn.new) }
 {
     // (the number of steps is small)
     let _steps = txn.meter.count(LimitKind::Steps);
-    let SaveRun {
-        object,
-        rest,
-        place,
-        ids,
-        stage: _,
-    } = run;
-    match settled(place, ids, drafts)? {
-        Ok(ids) => Ok(Moved::Went(SaveRun {
-            object,
-            rest,
-            place: place + 200,
-            ids,
-            stage: Stage::Load,
-        })),
+    let ids = replace(&mut run.ids, Items::new(alloc));
+    match settled(run.place, ids, drafts)? {
+        Ok(ids) => {
+            run.ids = ids;
+            run.place += 200;
+            run.stage = Stage::Load;
+            Ok(Moved::Went)
+        }
         Err((at, error)) => {
             txn.overlay.undo();
             Ok(Moved::Threw(Thrown::Dml(Op::Insert, number_of(at)?, error)))

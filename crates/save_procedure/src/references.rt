@@ -3,24 +3,24 @@
 ghost use Rattle.std.specs.Prelude.{◌≡◌, ◌<◌, [], ℕ, List, bytes_eq, IfOk, OnOk};
 ghost use Rattle.std.specs.Option.{option_copied};
 ghost use Rattle.indexmap.specs.IndexSet.{contains};
-ghost use Rattle.apex_schema.specs.Conds.{cell_of};
-ghost use Rattle.apex_schema.specs.Stores.{has_id};
+ghost use Rattle.row_meaning.specs.Conds.{cell_of};
+ghost use Rattle.row_meaning.specs.Stores.{has_id};
 ghost use Rattle.record_ids.specs.Ids.{most};
 ghost use Rattle.save_meaning.specs.Drafts as spec;
 ghost use Rattle.save_meaning.specs.Drafts.{going, judged, judged_by};
 ghost use Rattle.save_meaning.specs.Inserts.{ids_of};
-ghost use Rattle.save_moves.specs.Moves.{found_in};
+ghost use Rattle.save_meaning.specs.Moves.{found_in};
 
 use crate::doubles::add_id;
 use apex_list::{Items, Stack};
 use apex_num::{Cell, Id, NoMemory, Text};
-use apex_schema::{Cond, Field, FieldKind, Object, Path, Row, Term, Terms};
+use apex_rows::{Cond, Path, Row, Term, Terms};
+use apex_schema::{Field, FieldKind, Object};
 use indexmap::IndexSet;
 use platform_errors::RecordError;
 use record_drafts::invalid;
 use record_ids::user_number;
-use save_meaning::{Draft, Reference};
-use save_moves::Finding;
+use save_meaning::{Draft, Finding, Reference};
 use std::alloc::{AllocError, Global};
 use std::collections::BTreeSet;
 use std::marker::Model;
@@ -135,9 +135,9 @@ struct Named {
 impl Model for Named {
     ghost use Rattle.std.specs.Prelude.{◌≡◌, ℕ, List, bytes_eq};
     ghost use Rattle.indexmap.specs.IndexSet.{contains};
-    ghost use Rattle.apex_schema.specs.Stores.{has_id};
+    ghost use Rattle.row_meaning.specs.Stores.{has_id};
     ghost use Rattle.save_meaning.specs.Inserts.{ids_of};
-    ghost use Rattle.save_moves.specs.declared.run.Finding.{Finding as Found};
+    ghost use Rattle.save_meaning.specs.declared.run.Finding.{Finding as Found};
 
     ghost Value = { Found };
 

@@ -1,25 +1,27 @@
 // A save from where it stands to its next question or its end.
 
 ghost use Rattle.std.specs.Prelude.{◌≡◌, IfOk};
-ghost use Rattle.save_moves.specs.Moves as spec;
+ghost use Rattle.save_meaning.specs.Moves as spec;
 ghost use Rattle.save_procedure.specs.Does.{Does, IsSound, HasIds, IsPaid, Advances};
 
-use crate::moved::{Moved, at};
+use crate::moved::Moved;
 use crate::moves::{answered, charge, count, enter, find, inside, load, settle, write};
 use apex_list::Items;
 use apex_num::{Id, NoMemory};
-use apex_schema::{Answer, Question, Schema, Ticket};
+use apex_requests::Ticket;
+use apex_rows::{Answer, Question};
+use apex_schema::Schema;
 use limit_meter::Limit;
 use platform_errors::Thrown;
-use save_moves::{SaveRun, Stage, TxnState};
+use save_meaning::{SaveRun, Stage, TxnState};
 use std::alloc::Global;
 use std::mem::replace;
 
-/// Where a save stopped.
+/// Why a save stopped.
 #[derive(Drop)]
 pub enum Stopped {
     /// It asks, and waits for the answer.
-    Asked(Question, SaveRun),
+    Asked(Question),
     /// It ended, with the Ids of its records in their order.
     Saved(Items<Id>),
     /// It threw.
@@ -33,15 +35,14 @@ fn move_once(
     alloc: Global,
     schema: &Schema,
     ticket: Ticket,
-    run: SaveRun,
+    run: &mut SaveRun,
     txn: &mut TxnState,
 ) -> Result<Moved, NoMemory>
     requires sound { IsSound schema.now }
     requires ids { HasIds ticket }
-    requires paid { IsPaid run txn.old }
-    ensures { IfOk result (λ m. Does schema.now ticket run txn.old m txn.new) }
+    requires paid { IsPaid run.old txn.old }
+    ensures { IfOk result (λ m. Does schema.now ticket run.old txn.old m run.new txn.new) }
 {
-    let mut run = run;
     match replace(&mut run.stage, Stage::Charge) {
         Stage::Charge => Ok(charge(run, txn)),
         Stage::Count => count(alloc, schema, ticket, run, txn),
@@ -59,29 +60,28 @@ fn move_once(
             Ok(moved)
         }
         Stage::Write(before, left) => write(alloc, schema, ticket, run, before, left, txn),
-        Stage::Settle(drafts) => settle(run, drafts, txn),
+        Stage::Settle(drafts) => settle(alloc, run, drafts, txn),
     }
 }
 
-/// Goes on with a save to its next question or its end. It changes the overlay, the number of Ids that were made and the
-/// counters. Want of memory leaves these in any state; the request is spent then.
+/// Goes on with a save to its next question or its end. It changes the save, the overlay, the number of Ids that were made and
+/// the counters. Want of memory leaves these in any state; the request is spent then.
 pub fn advance(
     alloc: Global,
     schema: &Schema,
     ticket: Ticket,
-    run: SaveRun,
+    run: &mut SaveRun,
     txn: &mut TxnState,
 ) -> Result<Stopped, NoMemory>
     requires sound { IsSound schema.now }
     requires ids { HasIds ticket }
-    requires paid { IsPaid run txn.old }
-    ensures { IfOk result (λ s. Advances schema.now ticket run txn.old s txn.new) }
+    requires paid { IsPaid run.old txn.old }
+    ensures { IfOk result (λ s. Advances schema.now ticket run.old txn.old s run.new txn.new) }
 {
-    let mut run = run;
     'moves: loop {
         match move_once(alloc, schema, ticket, run, txn)? {
-            Moved::Went(next) => run = next,
-            Moved::Asked(question, waiting) => return Ok(Stopped::Asked(question, waiting)),
+            Moved::Went => {}
+            Moved::Asked(question) => return Ok(Stopped::Asked(question)),
             Moved::Saved(ids) => return Ok(Stopped::Saved(ids)),
             Moved::Threw(thrown) => return Ok(Stopped::Threw(thrown)),
             Moved::Halted(limit) => return Ok(Stopped::Halted(limit)),
@@ -89,12 +89,11 @@ pub fn advance(
     }
 }
 
-/// The save with the answer to what it asked. It takes no memory.
-pub fn given(run: SaveRun, answer: Answer) -> SaveRun
-    ensures { result ≡ spec.given run answer }
+// The stage with the answer to what it asked.
+fn told(stage: Stage, answer: Answer) -> Stage
+    ensures { result ≡ spec.given_in stage answer }
 {
-    let mut run = run;
-    let stage = match replace(&mut run.stage, Stage::Charge) {
+    match stage {
         Stage::Find(drafts, refs, found) => {
             let mut refs = refs;
             match refs.pop() {
@@ -103,6 +102,13 @@ pub fn given(run: SaveRun, answer: Answer) -> SaveRun
             }
         }
         stage => stage,
-    };
-    at(run, stage)
+    }
+}
+
+/// The save has the answer to what it asked. It takes no memory.
+pub fn given(run: &mut SaveRun, answer: Answer)
+    ensures { run.new ≡ spec.given run.old answer }
+{
+    let stage = replace(&mut run.stage, Stage::Charge);
+    run.stage = told(stage, answer);
 }

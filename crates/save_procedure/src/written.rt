@@ -8,7 +8,9 @@ ghost use Rattle.save_meaning.specs.Inserts.{ids_of};
 
 use apex_list::{Items, Stack};
 use apex_num::{Cell, Id, NoMemory};
-use apex_schema::{Object, Row, Ticket};
+use apex_requests::Ticket;
+use apex_rows::Row;
+use apex_schema::Object;
 use platform_errors::RecordError;
 use record_ids::minted_id;
 use save_meaning::Draft;

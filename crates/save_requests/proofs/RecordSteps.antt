@@ -1,9 +1,9 @@
 -- The records of rows, one after the other.
-use Rattle.std.proofs.Common.{arith, ◌≡◌, ◌⊎◌, inl, inr, ◌<◌, ◌+◌, ℕ, zero, suc, true, false, List, [], ◌∷◌, ◌++◌, length, take, drop, get_or, refl, sym, ap, ap₂, ◌∙◌, subst}
+use Rattle.std.proofs.Common.{arith, ◌≡◌, inl, inr, ◌<◌, ◌+◌, ℕ, suc, List, [], ◌∷◌, ◌++◌, length, take, drop, get_or, refl, sym, ap, ap₂, ◌∙◌, subst}
 use Rattle.std.proofs.lemmas.List.{take_more, take-append-drop, length-take-le}
 use Rattle.std.proofs.Math.Seq.{drop-cons}
-use Rattle.apex_schema.specs.declared.reply.FaultWord.{FaultWord}
-use Rattle.apex_schema.specs.declared.request.SaveRow.{SaveRow}
+use Rattle.fault_words.specs.declared.fault.FaultWord.{FaultWord}
+use Rattle.apex_requests.specs.declared.request.SaveRow.{SaveRow}
 use Rattle.apex_schema.specs.declared.schema.Field.{Field}
 use Rattle.bundle_read.specs.declared.entries.RowEntry.{RowEntry}
 use Rattle.row_cells.specs.Rows.{Known, IsRow}

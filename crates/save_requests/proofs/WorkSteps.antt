@@ -1,17 +1,16 @@
 -- What a save is, and that it is one thing.
-use Rattle.std.proofs.Common.{◌≡◌, ◌⊎◌, inl, inr, ℕ, Bool, List, slice_get, Option, Some, None, refl, sym, ap, ap₂, ◌∙◌, subst}
+use Rattle.std.proofs.Common.{◌≡◌, inl, inr, ℕ, List, slice_get, Some, None, refl, sym, ap, ap₂, ◌∙◌, subst}
 use Rattle.std.proofs.lemmas.Option.{same_Some}
-use Rattle.apex_schema.specs.declared.reply.Fault.{Fault}
-use Rattle.apex_schema.specs.declared.reply.FaultWord.{FaultWord}
-use Rattle.apex_schema.specs.declared.request.Op.{Op}
-use Rattle.apex_schema.specs.declared.request.SaveRow.{SaveRow}
-use Rattle.apex_schema.specs.declared.request.Work.{Work}
-use Rattle.apex_schema.specs.declared.request.Work.TheVariants.{Apex, Save, Refused}
+use Rattle.fault_words.specs.declared.fault.Fault.{Fault}
+use Rattle.fault_words.specs.declared.fault.FaultWord.{FaultWord}
+use Rattle.apex_requests.specs.declared.request.SaveRow.{SaveRow}
+use Rattle.apex_requests.specs.declared.request.Work.{Work}
+use Rattle.apex_requests.specs.declared.request.Work.TheVariants.{Apex, Save, Refused}
 use Rattle.apex_schema.specs.declared.schema.Object.{Object}
 use Rattle.apex_schema.specs.declared.schema.Schema.{Schema}
-use Rattle.apex_schema.specs.Plans.{bind}
+use Rattle.schema_plans.specs.Plans.{bind}
 use Rattle.bundle_read.specs.declared.entries.SaveEntry.{SaveEntry}
-use Rattle.save_requests.specs.Saves.{AreRecords, IsFirstBad, IsOf, IsSave, IsSaveFault, IsWork, IsOnlyWork, OnlyRecords, object_number, fault_in}
+use Rattle.save_requests.specs.Saves.{AreRecords, IsFirstBad, IsOf, IsWork, IsOnlyWork, OnlyRecords, object_number, fault_in}
 use Rattle.save_requests.proofs.RecordSteps.{not_both, one_bad}
 
 module _ (schema : Schema) (save : SaveEntry) (number : ℕ) (object : Object) (of : IsOf schema save number object) where

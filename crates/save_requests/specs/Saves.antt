@@ -1,25 +1,25 @@
 -- The saves that requests are (docs/formats.md, "Saves").
-use Rattle.std.specs.Prelude.{◌≡◌, ◌⊎◌, ℕ, ◌+◌, List, [], ◌∷◌, ◌++◌, codes, decimal, slice_get, Option, None, Some, Result, Ok, Err}
+use Rattle.std.specs.Prelude.{◌≡◌, ◌⊎◌, ℕ, ◌+◌, List, [], ◌∷◌, ◌++◌, codes, decimal, slice_get, Option, None, Some}
 use Rattle.apex_num.specs.declared.cell.Cell.{Cell}
 use Rattle.apex_num.specs.declared.cell.Cell.TheVariants.{Id}
-use Rattle.apex_schema.specs.declared.reply.Fault.{Fault}
-use Rattle.apex_schema.specs.declared.reply.FaultWord.{FaultWord}
-use Rattle.apex_schema.specs.declared.reply.FaultWord.TheVariants as Word
-use Rattle.apex_schema.specs.declared.request.SaveRow.{SaveRow}
-use Rattle.apex_schema.specs.declared.request.Work.{Work}
-use Rattle.apex_schema.specs.declared.request.Work.TheVariants.{Apex, Save, Refused}
+use Rattle.fault_words.specs.declared.fault.Fault.{Fault}
+use Rattle.fault_words.specs.declared.fault.FaultWord.{FaultWord}
+use Rattle.fault_words.specs.declared.fault.FaultWord.TheVariants as Word
+use Rattle.apex_requests.specs.declared.request.SaveRow.{SaveRow}
+use Rattle.apex_requests.specs.declared.request.Work.{Work}
+use Rattle.apex_requests.specs.declared.request.Work.TheVariants.{Apex, Save, Refused}
 use Rattle.apex_schema.specs.declared.schema.Field.{Field}
 use Rattle.apex_schema.specs.declared.schema.Object.{Object}
 use Rattle.apex_schema.specs.declared.schema.Schema.{Schema}
-use Rattle.apex_schema.specs.Names.{place_of}
-use Rattle.apex_schema.specs.Plans.{bind}
+use Rattle.schema_names.specs.Names.{place_of}
+use Rattle.schema_plans.specs.Plans.{bind}
 use Rattle.apex_text.specs.Fold.{folded}
 use Rattle.bundle_read.specs.declared.entries.RowEntry.{RowEntry}
 use Rattle.bundle_read.specs.declared.entries.SaveEntry.{SaveEntry}
 use Rattle.row_cells.specs.declared.rows.RowFault.{RowFault}
 use Rattle.row_cells.specs.declared.rows.RowFault.TheVariants as Rows
 use Rattle.row_cells.specs.Rows.{Known, IsRow, IsRowFault}
-use Rattle.schema_places.specs.Names.{object_names}
+use Rattle.record_words.specs.Names.{object_names}
 use Rattle.save_requests.specs.declared.records.RecordsEnd.{RecordsEnd}
 use Rattle.save_requests.specs.declared.records.RecordsEnd.TheVariants.{At, NoMemory}
 

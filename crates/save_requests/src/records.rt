@@ -7,13 +7,16 @@ ghost use Rattle.save_requests.specs.Saves as spec;
 
 use apex_list::Items;
 use apex_num::{Cell, Id};
-use apex_schema::{FaultWord, Field, Places, SaveRow};
+use apex_requests::SaveRow;
+use apex_schema::Field;
 use bundle_read::RowEntry;
+use fault_words::FaultWord;
 use row_cells::{RowFault, row_of};
+use schema_names::Places;
 use std::alloc::{AllocError, Global};
 
 /// Why rows are no records.
-#[derive(Clone, Copy, Debug, PartialEq, Eq, Drop)]
+#[derive(Clone, Copy, PartialEq, Eq, Drop)]
 pub enum RecordsEnd {
     /// The number of the first row that something is wrong with, and what it is.
     At(usize, FaultWord),

@@ -6,9 +6,12 @@ ghost use Rattle.save_requests.specs.Saves as spec;
 
 use crate::records::{RecordsEnd, records};
 use apex_num::{NoMemory, Text};
-use apex_schema::{Fault, FaultWord, Object, Places, Work};
+use apex_requests::Work;
+use apex_schema::Object;
 use bundle_read::SaveEntry;
-use schema_places::SchemaPlaces;
+use fault_words::{Fault, FaultWord};
+use record_words::SchemaPlaces;
+use schema_names::Places;
 use std::alloc::{AllocError, Global};
 
 fn fault_in(alloc: Global, row: usize, word: FaultWord) -> Result<Fault, NoMemory>

@@ -7,20 +7,20 @@ use Rattle.std.proofs.lemmas.Bool.{ne_eqb}
 use Rattle.std.proofs.lemmas.Option.{same_Some, slice_get-map}
 use Rattle.apex_num.specs.declared.cell.Cell.{Cell}
 use Rattle.apex_num.specs.declared.cell.Cell.TheVariants.{Null, Id}
-use Rattle.apex_schema.specs.declared.plan.ObjectPlan.{ObjectPlan}
-use Rattle.apex_schema.specs.declared.plan.SchemaPlan.{SchemaPlan}
-use Rattle.apex_schema.specs.Conds.{or_null}
+use Rattle.schema_plans.specs.declared.plan.ObjectPlan.{ObjectPlan}
+use Rattle.schema_plans.specs.declared.plan.SchemaPlan.{SchemaPlan}
+use Rattle.row_meaning.specs.Conds.{or_null}
 use Rattle.apex_schema.specs.declared.schema.Field.{Field}
 use Rattle.apex_schema.specs.declared.schema.FieldKind.{FieldKind}
 use Rattle.apex_schema.specs.declared.schema.FieldKind.TheVariants as Kind
 use Rattle.apex_schema.specs.declared.schema.Object.{Object}
 use Rattle.apex_schema.specs.declared.schema.Schema.{Schema}
-use Rattle.apex_schema.specs.declared.row.Row.{Row}
-use Rattle.apex_schema.specs.declared.reply.FaultWord.{FaultWord}
-use Rattle.apex_schema.specs.Schemas.{numbered, object_of, row_share}
-use Rattle.apex_schema.specs.Stores.{AllRows, CellFits, CellsFit, has_id, IsRow as IsSchemaRow}
-use Rattle.apex_schema.specs.Users.{user_id}
-use Rattle.apex_schema.specs.Validity.{IsValid, bare}
+use Rattle.apex_rows.specs.declared.row.Row.{Row}
+use Rattle.fault_words.specs.declared.fault.FaultWord.{FaultWord}
+use Rattle.schema_plans.specs.Schemas.{numbered, object_of, row_share}
+use Rattle.row_meaning.specs.Stores.{AllRows, CellFits, CellsFit, has_id, IsRow as IsSchemaRow}
+use Rattle.row_meaning.specs.Users.{user_id}
+use Rattle.schema_plans.specs.Validity.{IsValid, bare}
 use Rattle.bundle_read.specs.declared.entries.CellEntry.{CellEntry}
 use Rattle.bundle_read.specs.declared.entries.CellValue.{CellValue}
 use Rattle.bundle_read.specs.declared.entries.CellValue.TheVariants as Written

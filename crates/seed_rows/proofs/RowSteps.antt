@@ -6,10 +6,10 @@ use Rattle.apex_num.specs.declared.cell.Cell.{Cell}
 use Rattle.apex_num.specs.declared.cell.Cell.TheVariants.{Id}
 use Rattle.apex_schema.specs.declared.schema.Object.{Object}
 use Rattle.apex_schema.specs.declared.schema.Schema.{Schema}
-use Rattle.apex_schema.specs.declared.row.Row.{Row}
-use Rattle.apex_schema.specs.declared.reply.FaultWord.{FaultWord}
-use Rattle.apex_schema.specs.declared.reply.FaultWord.TheVariants.{UnknownObject}
-use Rattle.apex_schema.specs.Schemas.{numbered}
+use Rattle.apex_rows.specs.declared.row.Row.{Row}
+use Rattle.fault_words.specs.declared.fault.FaultWord.{FaultWord}
+use Rattle.fault_words.specs.declared.fault.FaultWord.TheVariants.{UnknownObject}
+use Rattle.schema_plans.specs.Schemas.{numbered}
 use Rattle.row_cells.specs.declared.rows.RowFault.{RowFault}
 use Rattle.row_cells.specs.declared.rows.RowFault.TheVariants as Faults
 use Rattle.row_cells.specs.Rows.{Known, some_unknown, IsRow, IsOnlyRow, IsRowFault}

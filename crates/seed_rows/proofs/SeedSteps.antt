@@ -3,7 +3,7 @@ use Rattle.std.proofs.Common.{◌≡◌, ◌<◌, ◌+◌, ℕ, suc, List, [], �
 use Rattle.std.proofs.lemmas.List.{take_more, take-append-drop, map_push, map-append, append_assoc, append-nil}
 use Rattle.std.proofs.Math.Seq.{drop-cons}
 use Rattle.apex_schema.specs.declared.schema.Schema.{Schema}
-use Rattle.apex_schema.specs.declared.row.Row.{Row}
+use Rattle.apex_rows.specs.declared.row.Row.{Row}
 use Rattle.seed_rows.specs.declared.fault.SeedFault.{SeedFault}
 use Rattle.seed_rows.specs.declared.fault.SeedFault.TheVariants.{Wrong, NoMemory}
 use Rattle.seed_rows.specs.declared.row.RowEnd.{RowEnd}

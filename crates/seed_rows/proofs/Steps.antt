@@ -10,7 +10,7 @@ use Rattle.apex_num.specs.declared.cell.Cell.TheVariants as Cells
 use Rattle.apex_num.specs.Ids.{IsId, long_id}
 use Rattle.apex_text.specs.Fold.{folded}
 use Rattle.apex_schema.specs.declared.schema.FieldKind.TheVariants as Kind
-use Rattle.apex_schema.specs.Rules.{reads_as}
+use Rattle.row_meaning.specs.Rules.{reads_as}
 use Rattle.bundle_read.specs.declared.entries.CellEntry.{CellEntry}
 use Rattle.bundle_read.specs.declared.entries.CellValue.{CellValue}
 use Rattle.bundle_read.specs.declared.entries.CellValue.TheVariants as Written
@@ -19,7 +19,7 @@ use Rattle.seed_rows.specs.Keys.{id_cell, is_it, IsGiven}
 use Rattle.std.specs.List.{list_any}
 use Rattle.std.proofs.lemmas.List.{take_more, append_assoc, append-nil}
 use Rattle.apex_schema.specs.declared.schema.Field.{Field}
-use Rattle.apex_schema.specs.Users.{user_id}
+use Rattle.row_meaning.specs.Users.{user_id}
 use Rattle.bundle_read.specs.declared.entries.SeedEntry.{SeedEntry}
 use Rattle.record_ids.specs.Ids.{most, IsUserNumber}
 use Rattle.row_cells.specs.Rows.{Known}

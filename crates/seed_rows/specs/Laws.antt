@@ -2,9 +2,9 @@
 use Rattle.std.specs.Prelude.{List, bytes_eq}
 use Rattle.std.specs.List.{IsDistinct}
 use Rattle.apex_schema.specs.declared.schema.Schema.{Schema}
-use Rattle.apex_schema.specs.declared.row.Row.{Row}
-use Rattle.apex_schema.specs.Stores.{AllRows}
-use Rattle.apex_schema.specs.Validity.{IsValid}
+use Rattle.apex_rows.specs.declared.row.Row.{Row}
+use Rattle.row_meaning.specs.Stores.{AllRows}
+use Rattle.schema_plans.specs.Validity.{IsValid}
 use Rattle.seed_rows.specs.Written.{Written}
 use Rattle.seed_rows.specs.Seeds.{IsSeed}
 use Rattle.seed_rows.specs.Views.{ids_of}

@@ -2,15 +2,15 @@
 use Rattle.std.specs.Prelude.{◌≡◌, ℕ, Bool, true, false, List, slice_get, Option, None, Some, Result, Ok, Err}
 use Rattle.apex_num.specs.declared.cell.Cell.{Cell}
 use Rattle.apex_num.specs.declared.cell.Cell.TheVariants.{Id}
-use Rattle.apex_schema.specs.declared.reply.FaultWord.{FaultWord}
-use Rattle.apex_schema.specs.declared.reply.FaultWord.TheVariants.{UnknownField, BadCell}
+use Rattle.fault_words.specs.declared.fault.FaultWord.{FaultWord}
+use Rattle.fault_words.specs.declared.fault.FaultWord.TheVariants.{UnknownField, BadCell}
 use Rattle.row_cells.specs.declared.rows.RowFault.{RowFault}
 use Rattle.row_cells.specs.declared.rows.RowFault.TheVariants as Faults
 use Rattle.row_cells.specs.Rows.{Known}
 use Rattle.seed_rows.specs.declared.fault.SeedFault.{SeedFault}
 use Rattle.seed_rows.specs.declared.fault.SeedFault.TheVariants.{Wrong, NoMemory as NoRoom}
 use Rattle.apex_schema.specs.declared.schema.Schema.{Schema}
-use Rattle.apex_schema.specs.declared.row.Row.{Row}
+use Rattle.apex_rows.specs.declared.row.Row.{Row}
 use Rattle.seed_rows.specs.declared.row.RowEnd.{RowEnd}
 use Rattle.seed_rows.specs.declared.row.RowEnd.TheVariants.{Word, NoMemory}
 use Rattle.seed_rows.specs.Written.{Written}

@@ -6,19 +6,19 @@ use Rattle.apex_num.specs.declared.cell.Cell.{Cell}
 use Rattle.apex_num.specs.declared.cell.Cell.TheVariants.{Null, Id}
 use Rattle.apex_schema.specs.declared.schema.Object.{Object}
 use Rattle.apex_schema.specs.declared.schema.Schema.{Schema}
-use Rattle.apex_schema.specs.declared.row.Row.{Row}
-use Rattle.apex_schema.specs.declared.reply.Fault.{Fault}
-use Rattle.apex_schema.specs.declared.reply.FaultWord.{FaultWord}
-use Rattle.apex_schema.specs.declared.reply.FaultWord.TheVariants as Word
-use Rattle.apex_schema.specs.Plans.{bind}
-use Rattle.apex_schema.specs.Schemas.{numbered}
-use Rattle.apex_schema.specs.Users.{user_id}
+use Rattle.apex_rows.specs.declared.row.Row.{Row}
+use Rattle.fault_words.specs.declared.fault.Fault.{Fault}
+use Rattle.fault_words.specs.declared.fault.FaultWord.{FaultWord}
+use Rattle.fault_words.specs.declared.fault.FaultWord.TheVariants as Word
+use Rattle.schema_plans.specs.Plans.{bind}
+use Rattle.schema_plans.specs.Schemas.{numbered}
+use Rattle.row_meaning.specs.Users.{user_id}
 use Rattle.bundle_read.specs.declared.entries.SeedEntry.{SeedEntry}
 use Rattle.row_cells.specs.declared.rows.RowFault.TheVariants as Fault'
 use Rattle.row_cells.specs.Rows.{Known, IsRow, IsRowFault, is_number}
 use Rattle.seed_rows.specs.declared.fault.SeedFault.{SeedFault}
 use Rattle.seed_rows.specs.declared.fault.SeedFault.TheVariants.{Wrong, NoMemory}
-use Rattle.schema_places.specs.Names.{object_names}
+use Rattle.record_words.specs.Names.{object_names}
 use Rattle.seed_rows.specs.Written.{Written, written}
 use Rattle.seed_rows.specs.Words.{word_of}
 

@@ -1,6 +1,6 @@
 -- What contracts see of rows that are borrowed, and of checks.
 use Rattle.std.specs.Prelude.{ℕ, List, map}
-use Rattle.apex_schema.specs.declared.row.Row.{Row}
+use Rattle.apex_rows.specs.declared.row.Row.{Row}
 use Rattle.seed_rows.specs.declared.cells.Check.{Check}
 use Rattle.seed_rows.specs.declared.cells.Check.TheVariants as Checks
 use Rattle.seed_rows.specs.declared.written.WrittenRow.{WrittenRow}

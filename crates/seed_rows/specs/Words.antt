@@ -6,12 +6,12 @@ use Rattle.apex_schema.specs.declared.schema.Field.{Field}
 use Rattle.apex_schema.specs.declared.schema.FieldKind.{FieldKind}
 use Rattle.apex_schema.specs.declared.schema.FieldKind.TheVariants as Kind
 use Rattle.apex_schema.specs.declared.schema.Object.{Object}
-use Rattle.apex_schema.specs.declared.row.Row.{Row}
-use Rattle.apex_schema.specs.declared.reply.FaultWord.{FaultWord}
-use Rattle.apex_schema.specs.declared.reply.FaultWord.TheVariants.{BadCell, BadId, Missing, UnknownRow}
-use Rattle.apex_schema.specs.Rules.{text_length}
-use Rattle.apex_schema.specs.Stores.{has_id}
-use Rattle.apex_schema.specs.Users.{user_id}
+use Rattle.apex_rows.specs.declared.row.Row.{Row}
+use Rattle.fault_words.specs.declared.fault.FaultWord.{FaultWord}
+use Rattle.fault_words.specs.declared.fault.FaultWord.TheVariants.{BadCell, BadId, Missing, UnknownRow}
+use Rattle.row_meaning.specs.Rules.{text_length}
+use Rattle.row_meaning.specs.Stores.{has_id}
+use Rattle.row_meaning.specs.Users.{user_id}
 use Rattle.record_ids.specs.Ids.{is_seed_id}
 use Rattle.row_cells.specs.Rows.{Known}
 use Rattle.seed_rows.specs.Written.{Written, is_there}

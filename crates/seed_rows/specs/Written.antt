@@ -2,8 +2,8 @@
 use Rattle.std.specs.Prelude.{ℕ, ◌&&◌, Bool, false, List, [], ◌∷◌, ◌++◌, map, codes, bytes_eq, Option, None, Some}
 use Rattle.std.specs.List.{list_any}
 use Rattle.apex_text.specs.Fold.{folded}
-use Rattle.apex_schema.specs.Names.{place_of}
-use Rattle.apex_schema.specs.Rules.{reads_as}
+use Rattle.schema_names.specs.Names.{place_of}
+use Rattle.row_meaning.specs.Rules.{reads_as}
 use Rattle.bundle_read.specs.declared.entries.CellEntry.{CellEntry}
 use Rattle.bundle_read.specs.declared.entries.CellValue.{CellValue}
 use Rattle.bundle_read.specs.declared.entries.CellValue.TheVariants.{Text}

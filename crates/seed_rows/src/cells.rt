@@ -23,7 +23,7 @@ pub struct Ground<'a> {
 }
 
 /// What is asked of each field.
-#[derive(Clone, Copy, Debug, PartialEq, Eq, Drop)]
+#[derive(Clone, Copy, PartialEq, Eq, Drop)]
 pub enum Check {
     TooLong,
     Lacking,

@@ -1,6 +1,6 @@
 // Faults of a seed.
 
-use apex_schema::Fault;
+use fault_words::Fault;
 use std::alloc::AllocError;
 use thiserror::Error;
 

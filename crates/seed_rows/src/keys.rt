@@ -18,7 +18,7 @@ use row_cells::cell_of;
 use std::alloc::{AllocError, Global};
 
 /// A row by its object's number and its Id.
-#[derive(Clone, Copy, Debug, PartialEq, Eq, Hash, Drop)]
+#[derive(Clone, Copy, PartialEq, Eq, Hash, Drop)]
 pub struct RowKey {
     pub object: usize,
     pub id: [u8; 15],

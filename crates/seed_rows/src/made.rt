@@ -2,11 +2,11 @@
 
 ghost use Rattle.std.specs.Prelude.{◌≡◌, ◌++◌, ◌∷◌, [], map, ℕ, List, IfOk, bytes_eq};
 ghost use Rattle.indexmap.specs.IndexSet.{contains};
-ghost use Rattle.apex_schema.specs.Stores.{has_id};
+ghost use Rattle.row_meaning.specs.Stores.{has_id};
 ghost use Rattle.seed_rows.specs.Views.{ids_of};
 
 use apex_num::{Id, NoMemory};
-use apex_schema::Row;
+use apex_rows::Row;
 use indexmap::IndexSet;
 use std::alloc::{AllocError, Global};
 

@@ -2,7 +2,7 @@
 
 ghost use Rattle.std.specs.Prelude.{◌≡◌, ◌≤◌, length, slice_get, None, Some, IfOk, MatchResult};
 ghost use Rattle.std.specs.Option.{option_copied};
-ghost use Rattle.apex_schema.specs.Schemas.{numbered};
+ghost use Rattle.schema_plans.specs.Schemas.{numbered};
 ghost use Rattle.formula_rules.specs.Grammar.{field_names};
 ghost use Rattle.row_cells.specs.Rows.{IsOnlyRow};
 ghost use Rattle.seed_rows.specs.Rows.{IsChecked, IsGoodId, IsOnlySeedRow, NoSeedRow, end_of};
@@ -15,13 +15,16 @@ use crate::made::Made;
 use crate::written::WrittenRow;
 use apex_list::Items;
 use apex_num::{Cell, Id, NoMemory};
-use apex_schema::{FaultWord, Object, Places, Row, Schema};
+use apex_rows::Row;
+use apex_schema::{Object, Schema};
+use fault_words::FaultWord;
 use record_ids::{is_seed_id, user_id};
 use row_cells::{RowFault, row_of};
+use schema_names::Places;
 use std::alloc::{AllocError, Global};
 
 /// Why a row isn't one.
-#[derive(Clone, Copy, Debug, PartialEq, Eq, Drop)]
+#[derive(Clone, Copy, PartialEq, Eq, Drop)]
 pub enum RowEnd {
     /// The first thing that is wrong with it.
     Word(FaultWord),

@@ -17,9 +17,11 @@ use crate::made::Made;
 use crate::row::{RowEnd, object_row};
 use crate::written::{WrittenRow, written};
 use apex_num::{NoMemory, Text};
-use apex_schema::{Fault, FaultWord, Object, Row, Schema};
+use apex_rows::Row;
+use apex_schema::{Object, Schema};
 use bundle_read::SeedEntry;
-use schema_places::SchemaPlaces;
+use fault_words::{Fault, FaultWord};
+use record_words::SchemaPlaces;
 use std::alloc::Global;
 
 // One row, in view of those before it.

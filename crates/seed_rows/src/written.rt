@@ -1,13 +1,13 @@
 // The rows of a seed as they are written.
 
 ghost use Rattle.std.specs.Prelude.{◌≡◌, ◌++◌, ◌∷◌, [], map, None, Some, IfOk, OnOk};
-ghost use Rattle.schema_places.specs.Names.{object_names};
+ghost use Rattle.record_words.specs.Names.{object_names};
 ghost use Rattle.seed_rows.specs.Views.{as_written};
 ghost use Rattle.seed_rows.specs.Written as spec;
 
 use apex_num::{NoMemory, Text};
 use bundle_read::{CellEntry, SeedEntry};
-use schema_places::SchemaPlaces;
+use record_words::SchemaPlaces;
 use std::alloc::Global;
 
 /// A row as it is written.

@@ -1,21 +1,21 @@
 -- One attempt in a shard.
 use Rattle.std.proofs.Common.{◌≡◌, ℕ, suc, zero, ◌<◌, List, [], ◌∷◌, length, Option, Some, refl, sym, ap, ◌∙◌, subst}
-use Rattle.apex_schema.specs.declared.query.Answer.{Answer}
-use Rattle.apex_schema.specs.declared.query.Question.{Question}
-use Rattle.apex_schema.specs.declared.reply.Reply.{Reply}
-use Rattle.apex_schema.specs.declared.request.Request.{Request}
-use Rattle.apex_schema.specs.declared.request.Ticket.{Ticket}
-use Rattle.apex_schema.specs.declared.row.Row.{Row}
-use Rattle.apex_schema.specs.declared.row.Writes.{Writes}
+use Rattle.apex_rows.specs.declared.query.Answer.{Answer}
+use Rattle.apex_rows.specs.declared.query.Question.{Question}
+use Rattle.apex_requests.specs.declared.reply.Reply.{Reply}
+use Rattle.apex_requests.specs.declared.request.Request.{Request}
+use Rattle.apex_requests.specs.declared.request.Ticket.{Ticket}
+use Rattle.apex_rows.specs.declared.row.Row.{Row}
+use Rattle.apex_rows.specs.declared.row.Writes.{Writes}
 use Rattle.apex_schema.specs.declared.schema.Schema.{Schema}
-use Rattle.apex_schema.specs.Stores.{taken}
+use Rattle.row_meaning.specs.Stores.{taken}
 use Rattle.record_store.specs.Heaps.{rows_in}
-use Rattle.session_trails.specs.States.{IsSession, MayEnd, Starts}
+use Rattle.tenant_trails.specs.States.{IsSession, MayEnd, Starts}
 use Rattle.tenant_core.specs.Logs.{AreCurrent, IsCurrent, IsStale, IsStaleAt}
 use Rattle.tenant_core.specs.declared.log.Log.{Log}
 use Rattle.tenant_core.specs.Shards.{Shared, Closing, told_at}
 use Rattle.tenant_trails.specs.Legal.{Session, begun}
-use Rattle.typed_code.specs.declared.code.Image.{Image}
+use Rattle.stack_code.specs.declared.code.Image.{Image}
 use Rattle.session_runs.specs.Sessions.{closed_session, EndsWork, IsRun, StandsAt, ticket_of}
 use Rattle.session_runs.proofs.Legality.{in_mid, in_old, may_end}
 

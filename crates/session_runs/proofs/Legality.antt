@@ -1,37 +1,41 @@
 -- What is run keeps the trail legal.
 use Rattle.std.proofs.Common.{get_or, ◌≡◌, ℕ, zero, suc, ◌+◌, ◌<◌, ◌≤◌, Bool, true, false, List, [], ◌∷◌, ◌++◌, length, Option, Some, None, refl, sym, ap, ◌∙◌, subst, arith}
-use Rattle.std.specs.Prelude.{slice_get, slice_set}
-use Rattle.apex_schema.specs.declared.query.Answer.{Answer}
-use Rattle.apex_schema.specs.declared.reply.Event.{Event}
-use Rattle.apex_schema.specs.declared.reply.EventKind.TheVariants.{Start, End}
-use Rattle.apex_schema.specs.declared.reply.Reply.{Reply}
-use Rattle.apex_schema.specs.declared.request.Request.{Request}
-use Rattle.apex_schema.specs.declared.request.Ticket.{Ticket}
-use Rattle.apex_schema.specs.declared.request.Work.{Work}
-use Rattle.apex_schema.specs.declared.request.Work.TheVariants.{Apex, Save, Refused}
-use Rattle.apex_schema.specs.declared.row.Row.{Row}
-use Rattle.apex_schema.specs.declared.row.Writes.{Writes}
+use Rattle.std.specs.Prelude.{slice_get, slice_set, Result}
+use Rattle.apex_rows.specs.declared.query.Answer.{Answer}
+use Rattle.apex_requests.specs.declared.reply.Event.{Event}
+use Rattle.apex_requests.specs.declared.reply.EventKind.TheVariants.{Start, End}
+use Rattle.apex_requests.specs.declared.reply.Reply.{Reply}
+use Rattle.apex_requests.specs.declared.request.Request.{Request}
+use Rattle.apex_requests.specs.declared.request.Ticket.{Ticket}
+use Rattle.apex_requests.specs.declared.request.Work.{Work}
+use Rattle.apex_requests.specs.declared.request.Work.TheVariants.{Apex, Save, Refused}
+use Rattle.apex_rows.specs.declared.row.Row.{Row}
+use Rattle.apex_rows.specs.declared.row.Writes.{Writes}
 use Rattle.apex_schema.specs.declared.schema.Schema.{Schema}
-use Rattle.apex_schema.specs.Stores.{taken}
-use Rattle.block_requests.specs.Laws.{ImagesEvaluateBlocks}
-use Rattle.refused_requests.specs.Refusals.{no_writes}
-use Rattle.session_trails.specs.Laws.{state, StartsAreLegal, EndsAreLegal}
+use Rattle.row_meaning.specs.Stores.{taken}
+use Rattle.session_runs.specs.Laws.{ImagesEvaluateBlocks}
+use Rattle.apex_meaning.specs.Refusals.{no_writes}
+use Rattle.tenant_trails.specs.SessionLaws.{state, StartsAreLegal, EndsAreLegal}
 use Rattle.record_ids.specs.Ids.{most}
-use Rattle.session_trails.specs.States.{Told, Starts, MayStart, MayEnd}
+use Rattle.tenant_trails.specs.States.{Told, Starts, MayStart, MayEnd}
 use Rattle.tenant_trails.specs.Legal.{Session, State, Step, begun, tell, some_writes, first_state, LegalFrom, Closed}
 use Rattle.tenant_trails.specs.Runs.{Run, Ends, Evaluates, Tenant}
-use Rattle.typed_code.specs.declared.code.Image.{Image}
-use Rattle.typed_statements.specs.declared.stmt.TypedStmt.{TypedStmt}
-use Rattle.typed_vm.specs.Runs.{plain}
+use Rattle.stack_code.specs.declared.code.Image.{Image}
+use Rattle.type_names.specs.declared.fault.TreeFault.{TreeFault}
+use Rattle.typed_program.specs.declared.program.Program.{Program}
+use Rattle.typed_program.specs.declared.stmt.TypedStmt.{TypedStmt}
+use Rattle.typed_program.specs.declared.unit.TypedUnit.{TypedUnit}
+use Rattle.apex_meaning.specs.Runs.{run, run_or, stmts_or, block_at}
+use Rattle.metered_vm.specs.Runs.{plain}
 use Rattle.session_runs.specs.Replies.{open_in, Replies, RepliesOpen, RepliesAt, RunsFrom, IsRunOf}
-use Rattle.session_runs.specs.Sessions.{there, AreChecked, IsCheckedOr, HaveUsers, IsImage, AreImages, block_run, work_run, request_run, tenant_of, EndsBlock, EndsWork, closed_session, StandsAt, ticket_of, IsRun}
+use Rattle.session_runs.specs.Sessions.{there, AreChecked, IsCheckedOr, HaveUsers, IsImage, AreImages, request_run, tenant_of, EndsBlock, EndsWork, closed_session, StandsAt, ticket_of, IsRun}
 
 -- a request that is refused comes to that on every store
 refused_evaluates : (store : List Row) (go : List Answer → Run) (reply : Reply) (writes : Writes) → go [] ≡ Ends reply writes → Evaluates store go reply writes []
 refused_evaluates store go reply writes e = record { tape = []; follows = tt; ends = e; grabs_are = refl }
 
 -- an image stands where its block does
-image_there : (n : ℕ) (blocks : List (Option (List TypedStmt))) (images : List (Option Image)) → AreImages blocks images → IsImage (there blocks n) (there images n)
+image_there : (n : ℕ) (blocks : List (Result TypedUnit TreeFault)) (images : List (Option Image)) → AreImages blocks images → IsImage (stmts_or (slice_get blocks n)) (there images n)
 image_there n [] [] h = tt
 image_there n [] (i ∷ is) h = absurd h
 image_there n (b ∷ bs) [] h = absurd h
@@ -40,17 +44,17 @@ image_there (suc n) (b ∷ bs) (i ∷ is) h = image_there n bs is h.1
 
 module _ (evaluate : ImagesEvaluateBlocks) (schema : Schema) (ticket : Ticket) (store : List Row) where
   block_evaluates : (b : Option (List TypedStmt)) (i : Option Image) (reply : Reply) (writes : Writes) → IsImage b i → EndsBlock schema ticket i store reply writes →
-      Evaluates store (block_run schema ticket.session ticket.index ticket.user b) (plain reply) writes []
+      Evaluates store (run_or (record { schema = schema; ticket = ticket }) b) (plain reply) writes []
   block_evaluates None None reply writes m h = refused_evaluates store _ (plain reply) writes (ap (λ r. Ends (plain r) no_writes) (sym h.0) ∙ ap (λ w. Ends (plain reply) w) (sym h.1))
   block_evaluates None (Some i) reply writes m h = absurd m
   block_evaluates (Some b) None reply writes m h = absurd m
   block_evaluates (Some b) (Some i) reply writes m h = evaluate schema ticket b i store reply writes m h
 
-  work_evaluates : (work : Work) (blocks : List (Option (List TypedStmt))) (images : List (Option Image)) (reply : Reply) (writes : Writes) → AreImages blocks images → EndsWork schema ticket images work store reply writes →
-      Evaluates store (work_run schema ticket.session ticket.index ticket.user blocks work) (plain reply) writes []
-  work_evaluates (Apex n) blocks images reply writes m h = block_evaluates (there blocks n) (there images n) reply writes (image_there n blocks images m) h
-  work_evaluates (Save op object all rows) blocks images reply writes m h = refused_evaluates store _ (plain reply) writes (ap (λ r. Ends (plain r) no_writes) (sym h.0) ∙ ap (λ w. Ends (plain reply) w) (sym h.1))
-  work_evaluates (Refused f) blocks images reply writes m h = refused_evaluates store _ (plain reply) writes (ap (λ r. Ends (plain r) no_writes) (sym h.0) ∙ ap (λ w. Ends (plain reply) w) (sym h.1))
+  work_evaluates : (work : Work) (program : Program) (images : List (Option Image)) (reply : Reply) (writes : Writes) → AreImages program.blocks images → EndsWork schema ticket images work store reply writes →
+      Evaluates store (run (record { schema = schema; program = program; ticket = ticket }) work) (plain reply) writes []
+  work_evaluates (Apex n) program images reply writes m h = block_evaluates (block_at program n) (there images n) reply writes (image_there n program.blocks images m) h
+  work_evaluates (Save op object all rows) program images reply writes m h = refused_evaluates store _ (plain reply) writes (ap (λ r. Ends (plain r) no_writes) (sym h.0) ∙ ap (λ w. Ends (plain reply) w) (sym h.1))
+  work_evaluates (Refused f) program images reply writes m h = refused_evaluates store _ (plain reply) writes (ap (λ r. Ends (plain r) no_writes) (sym h.0) ∙ ap (λ w. Ends (plain reply) w) (sym h.1))
 
 pub checked_there : (n : ℕ) (images : List (Option Image)) → AreChecked images → IsCheckedOr (there images n)
 checked_there n [] h = tt
@@ -117,17 +121,17 @@ module _ (schema : Schema) (images : List (Option Image)) (sessions : List (List
   pub run_closed : (trail : List Event) → IsRunOf schema images sessions tenant trail → Closed tenant trail
   run_closed trail h = record { after = h.after; is = legal trail (first_state tenant) h.after h.is; sessions = h.sessions }
 
-module _ (starting : StartsAreLegal) (ending : EndsAreLegal) (evaluate : ImagesEvaluateBlocks) (schema : Schema) (blocks : List (Option (List TypedStmt))) (images : List (Option Image)) (m : AreImages blocks images) (seed : List Row) (requests : List Request) where
+module _ (starting : StartsAreLegal) (ending : EndsAreLegal) (evaluate : ImagesEvaluateBlocks) (schema : Schema) (program : Program) (images : List (Option Image)) (m : AreImages program.blocks images) (seed : List Row) (requests : List Request) where
   -- the next request keeps the trail legal
-  pub next_legal : (r : Request) (i : ℕ) (before : List Row) (old : Told) (after : List Row) (new : Told) → i < length requests → slice_get requests i ≡ Some r → Keeps schema images (requests ∷ []) (tenant_of schema blocks seed (requests ∷ [])) old before → StandsAt i old →
-      IsRun schema images r i before old after new → Keeps schema images (requests ∷ []) (tenant_of schema blocks seed (requests ∷ [])) new after
+  pub next_legal : (r : Request) (i : ℕ) (before : List Row) (old : Told) (after : List Row) (new : Told) → i < length requests → slice_get requests i ≡ Some r → Keeps schema images (requests ∷ []) (tenant_of schema program seed (requests ∷ [])) old before → StandsAt i old →
+      IsRun schema images r i before old after new → Keeps schema images (requests ∷ []) (tenant_of schema program seed (requests ∷ [])) new after
   next_legal r i before old after new lt at keeps stands run =
-      let tenant = tenant_of schema blocks seed (requests ∷ []) in
+      let tenant = tenant_of schema program seed (requests ∷ []) in
       let mid_is = in_mid i old run.mid stands run.starts in
       let start_step = starting tenant old run.mid before 0 (length requests) (closed_session i) run.starts (in_old i old stands) refl refl lt in
       let opened = keeps_more schema images (requests ∷ []) tenant old run.mid before before (record { session = 0; kind = Start i }) keeps run.starts.events start_step tt in
       let meant : Evaluates before (tenant.run 0 i) (plain run.reply) run.writes [] =
-      subst (λ o. Evaluates before (request_run schema blocks o 0 i) (plain run.reply) run.writes []) (sym at) (work_evaluates evaluate schema (ticket_of r 0 i) before r.work blocks images run.reply run.writes m run.ends) in
+      subst (λ o. Evaluates before (request_run schema program o 0 i) (plain run.reply) run.writes []) (sym at) (work_evaluates evaluate schema (ticket_of r 0 i) before r.work program images run.reply run.writes m run.ends) in
       let end_step = ending tenant run.mid new before 0 (record { closed = i; running = Some (begun i) }) (begun i) run.reply (plain run.reply) run.writes run.closes mid_is refl refl refl meant (record { outcome = refl; debug = refl; counts = refl }) in
       let reply_is : RepliesAt schema images (requests ∷ []) (state run.mid before) 0 (End run.reply) =
       subst (λ o. RepliesOpen schema images (requests ∷ []) before 0 (open_in o) run.reply) (sym mid_is) (subst (λ o. Replies schema images (requests ∷ []) before 0 i o run.reply) (sym at) (run.writes, run.ends)) in
@@ -135,11 +139,11 @@ module _ (starting : StartsAreLegal) (ending : EndsAreLegal) (evaluate : ImagesE
       subst (λ rows. Keeps schema images (requests ∷ []) tenant new rows) (sym run.taken_are) closed
 
   -- before the first request
-  pub first_legal : (told : Told) → told.sessions ≡ closed_session 0 ∷ [] → told.events ≡ [] → Keeps schema images (requests ∷ []) (tenant_of schema blocks seed (requests ∷ [])) told seed
+  pub first_legal : (told : Told) → told.sessions ≡ closed_session 0 ∷ [] → told.events ≡ [] → Keeps schema images (requests ∷ []) (tenant_of schema program seed (requests ∷ [])) told seed
   first_legal told s e = record { is = first told.events told.sessions e s } where
-    first : (events : List Event) (sessions : List Session) → events ≡ [] → sessions ≡ closed_session 0 ∷ [] → RunsFrom schema images (requests ∷ []) (tenant_of schema blocks seed (requests ∷ [])) (first_state (tenant_of schema blocks seed (requests ∷ []))) events (record { store = seed; sessions = sessions })
-    first events sessions e s = subst (λ es. RunsFrom schema images (requests ∷ []) (tenant_of schema blocks seed (requests ∷ [])) (first_state (tenant_of schema blocks seed (requests ∷ []))) es (record { store = seed; sessions = sessions })) (sym e) (ap (λ ss. record { store = seed; sessions = ss }) s)
+    first : (events : List Event) (sessions : List Session) → events ≡ [] → sessions ≡ closed_session 0 ∷ [] → RunsFrom schema images (requests ∷ []) (tenant_of schema program seed (requests ∷ [])) (first_state (tenant_of schema program seed (requests ∷ []))) events (record { store = seed; sessions = sessions })
+    first events sessions e s = subst (λ es. RunsFrom schema images (requests ∷ []) (tenant_of schema program seed (requests ∷ [])) (first_state (tenant_of schema program seed (requests ∷ []))) es (record { store = seed; sessions = sessions })) (sym e) (ap (λ ss. record { store = seed; sessions = ss }) s)
 
   -- behind the last one
-  pub all_run : (told : Told) (store : List Row) → Keeps schema images (requests ∷ []) (tenant_of schema blocks seed (requests ∷ [])) told store → StandsAt (length requests) told → IsRunOf schema images (requests ∷ []) (tenant_of schema blocks seed (requests ∷ [])) told.events
+  pub all_run : (told : Told) (store : List Row) → Keeps schema images (requests ∷ []) (tenant_of schema program seed (requests ∷ [])) told store → StandsAt (length requests) told → IsRunOf schema images (requests ∷ []) (tenant_of schema program seed (requests ∷ [])) told.events
   all_run told store keeps stands = record { after = state told store; is = keeps.is; sessions = stands }

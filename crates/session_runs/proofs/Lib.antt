@@ -1,2 +1,4 @@
+pub mod Asked
 pub mod Legality
 pub mod Attempts
+pub mod Imaged

@@ -1,16 +1,16 @@
 -- Trails whose replies are those of the machine (docs/platform.md, "Trails").
 use Rattle.std.specs.Prelude.{◌≡◌, ℕ, List, [], ◌∷◌, slice_get, map, Option, None, Some}
-use Rattle.apex_schema.specs.declared.reply.Event.{Event}
-use Rattle.apex_schema.specs.declared.reply.EventKind.{EventKind}
-use Rattle.apex_schema.specs.declared.reply.EventKind.TheVariants.{Start, Grab, Refuse, Restart, End}
-use Rattle.apex_schema.specs.declared.reply.Reply.{Reply}
-use Rattle.apex_schema.specs.declared.request.Request.{Request}
-use Rattle.apex_schema.specs.declared.row.Row.{Row}
-use Rattle.apex_schema.specs.declared.row.Writes.{Writes}
+use Rattle.apex_requests.specs.declared.reply.Event.{Event}
+use Rattle.apex_requests.specs.declared.reply.EventKind.{EventKind}
+use Rattle.apex_requests.specs.declared.reply.EventKind.TheVariants.{Start, Grab, Refuse, Restart, End}
+use Rattle.apex_requests.specs.declared.reply.Reply.{Reply}
+use Rattle.apex_requests.specs.declared.request.Request.{Request}
+use Rattle.apex_rows.specs.declared.row.Row.{Row}
+use Rattle.apex_rows.specs.declared.row.Writes.{Writes}
 use Rattle.apex_schema.specs.declared.schema.Schema.{Schema}
 use Rattle.tenant_trails.specs.Legal.{Open, Session, State, Step, first_state}
 use Rattle.tenant_trails.specs.Runs.{Tenant}
-use Rattle.typed_code.specs.declared.code.Image.{Image}
+use Rattle.stack_code.specs.declared.code.Image.{Image}
 use Rattle.session_runs.specs.Sessions.{EndsWork, request_at, ticket_of}
 
 -- the open request of a session

@@ -1,26 +1,29 @@
 -- What the requests of a session do, and what is said of those that were run (docs/platform.md, "Trails").
-use Rattle.std.specs.Prelude.{◌≡◌, ◌<◌, ℕ, suc, List, [], ◌∷◌, length, map, slice_get, Option, None, Some}
-use Rattle.apex_schema.specs.declared.query.Answer.{Answer}
-use Rattle.apex_schema.specs.declared.reply.Reply.{Reply}
-use Rattle.apex_schema.specs.declared.request.Request.{Request}
-use Rattle.apex_schema.specs.declared.request.Ticket.{Ticket}
-use Rattle.apex_schema.specs.declared.request.Work.{Work}
-use Rattle.apex_schema.specs.declared.request.Work.TheVariants.{Apex, Save, Refused}
-use Rattle.apex_schema.specs.declared.row.Row.{Row}
-use Rattle.apex_schema.specs.declared.row.Writes.{Writes}
+use Rattle.std.specs.Prelude.{◌≡◌, ◌<◌, ℕ, suc, List, [], ◌∷◌, length, map, slice_get, Option, None, Some, Result}
+use Rattle.apex_rows.specs.declared.query.Answer.{Answer}
+use Rattle.apex_requests.specs.declared.reply.Reply.{Reply}
+use Rattle.apex_requests.specs.declared.request.Request.{Request}
+use Rattle.apex_requests.specs.declared.request.Ticket.{Ticket}
+use Rattle.apex_requests.specs.declared.request.Work.{Work}
+use Rattle.apex_requests.specs.declared.request.Work.TheVariants.{Apex, Save, Refused}
+use Rattle.apex_rows.specs.declared.row.Row.{Row}
+use Rattle.apex_rows.specs.declared.row.Writes.{Writes}
 use Rattle.apex_schema.specs.declared.schema.Schema.{Schema}
-use Rattle.apex_schema.specs.Stores.{taken}
-use Rattle.block_requests.specs.Blocks.{RunsTo}
+use Rattle.row_meaning.specs.Stores.{taken}
+use Rattle.session_runs.specs.Blocks.{RunsTo}
 use Rattle.record_ids.specs.Ids.{most}
-use Rattle.refused_requests.specs.Refusals.{refusal, not_yet, no_writes}
-use Rattle.session_trails.specs.States.{Told, Starts, Ends as Closes}
+use Rattle.apex_meaning.specs.Refusals.{refusal, not_yet, no_writes}
+use Rattle.tenant_trails.specs.States.{Told, Starts, Ends as Closes}
 use Rattle.tenant_trails.specs.Legal.{Session, begun, some_writes}
 use Rattle.tenant_trails.specs.Runs.{Run, Ends, Tenant}
-use Rattle.typed_code.specs.declared.code.Image.{Image}
-use Rattle.typed_code.specs.Checked.{IsChecked}
-use Rattle.typed_compiler.specs.Means.{Means}
-use Rattle.typed_meaning.specs.Runs.{run}
-use Rattle.typed_statements.specs.declared.stmt.TypedStmt.{TypedStmt}
+use Rattle.stack_code.specs.declared.code.Image.{Image}
+use Rattle.stack_code.specs.Checked.{IsChecked}
+use Rattle.stack_compiler.specs.Means.{Means}
+use Rattle.apex_meaning.specs.Runs.{run, stmts_of}
+use Rattle.type_names.specs.declared.fault.TreeFault.{TreeFault}
+use Rattle.typed_program.specs.declared.program.Program.{Program}
+use Rattle.typed_program.specs.declared.stmt.TypedStmt.{TypedStmt}
+use Rattle.typed_program.specs.declared.unit.TypedUnit.{TypedUnit}
 
 -- ---- blocks and images by their numbers
 
@@ -45,28 +48,21 @@ IsImage None None = Unit {0}
 IsImage (Some block) (Some image) = Means block image
 IsImage _ _ = ⊥
 
-abbrev pub AreImages : List (Option (List TypedStmt)) → List (Option Image) → Type 0
+-- so it is for each block of a program, by their numbers
+abbrev pub AreImages : List (Result TypedUnit TreeFault) → List (Option Image) → Type 0
 AreImages [] [] = Unit {0}
-AreImages (b ∷ bs) (i ∷ is) = IsImage b i × AreImages bs is
+AreImages (b ∷ bs) (i ∷ is) = IsImage (stmts_of b) i × AreImages bs is
 AreImages _ _ = ⊥
 
 -- ---- what a request does
 
--- the schema; the session, the request in it and its user
-module _ (schema : Schema) (session request user : ℕ) where
-  abbrev pub block_run : Option (List TypedStmt) → List Answer → Run
-  block_run None tape = Ends (refusal not_yet) no_writes
-  block_run (Some block) tape = run schema session request user block tape
+abbrev pub ticket_of : Request → ℕ → ℕ → Ticket
+ticket_of r s i = record { session = s; index = i; user = r.user; now = r.now }
 
-  -- a save isn't built yet
-  abbrev pub work_run : List (Option (List TypedStmt)) → Work → List Answer → Run
-  work_run blocks (Apex n) tape = block_run (there blocks n) tape
-  work_run blocks (Save op object all rows) tape = Ends (refusal not_yet) no_writes
-  work_run blocks (Refused f) tape = Ends (refusal f) no_writes
-
-abbrev pub request_run : Schema → List (Option (List TypedStmt)) → Option Request → ℕ → ℕ → List Answer → Run
-request_run schema blocks None s i tape = Ends (refusal not_yet) no_writes
-request_run schema blocks (Some r) s i tape = work_run schema s i r.user blocks r.work tape
+-- request i of session s, where there is one
+abbrev pub request_run : Schema → Program → Option Request → ℕ → ℕ → List Answer → Run
+request_run schema program None s i tape = Ends (refusal not_yet) no_writes
+request_run schema program (Some r) s i tape = run (record { schema = schema; program = program; ticket = ticket_of r s i }) r.work tape
 
 -- request i of a session, and of session s
 abbrev pub request_in : Option (List Request) → ℕ → Option Request
@@ -77,11 +73,11 @@ abbrev pub request_at : List (List Request) → ℕ → ℕ → Option Request
 request_at sessions s i = request_in (slice_get sessions s) i
 
 -- a tenant with these rows at first, whose sessions have these requests
-abbrev pub tenant_of : Schema → List (Option (List TypedStmt)) → List Row → List (List Request) → Tenant
-tenant_of schema blocks seed sessions = record {
+abbrev pub tenant_of : Schema → Program → List Row → List (List Request) → Tenant
+tenant_of schema program seed sessions = record {
   seed = seed;
   requests = map (λ (rs : List Request). length rs) sessions;
-  run = λ s i. request_run schema blocks (request_at sessions s i) s i;
+  run = λ s i. request_run schema program (request_at sessions s i) s i;
 }
 
 -- each request is of a user who has an Id
@@ -110,9 +106,6 @@ StandsAt n told = told.sessions ≡ closed_session n ∷ []
 -- there is one session, and nothing has happened
 abbrev pub IsNew : Told → Type 0
 IsNew told = StandsAt 0 told × (told.events ≡ [])
-
-abbrev pub ticket_of : Request → ℕ → ℕ → Ticket
-ticket_of r s i = record { session = s; index = i; user = r.user; now = r.now }
 
 -- the next request was opened, run on the rows as they were, and closed, and its writes were taken
 pub record IsRun (schema : Schema) (images : List (Option Image)) (r : Request) (i : ℕ) (before : List Row) (old : Told) (after : List Row) (new : Told) : Type 0 where

@@ -3,19 +3,20 @@
 ghost use Rattle.std.specs.Prelude.{◌≡◌, [], IfOk};
 ghost use Rattle.std.specs.Option.{option_copied};
 ghost use Rattle.record_store.specs.Heaps.{rows_in};
-ghost use Rattle.refused_requests.specs.Refusals as refusals;
+ghost use Rattle.apex_meaning.specs.Refusals as refusals;
 ghost use Rattle.tenant_core.specs.Logs.{IsCurrent};
 ghost use Rattle.save_procedure.specs.Does.{IsSound, HasIds};
 ghost use Rattle.session_runs.specs.Sessions.{AreChecked, EndsBlock, EndsWork, IsCheckedOr, there};
 
-use apex_list::Items;
+use crate::{Attempt, run_image};
+use apex_meaning::{no_writes, not_yet, refusal};
 use apex_num::NoMemory;
-use apex_schema::{Counts, Fault, Outcome, Reply, Schema, Ticket, Work, Writes};
-use block_requests::{Attempt, run_image};
-use refused_requests::not_yet;
+use apex_requests::{Ticket, Work};
+use apex_schema::Schema;
+use fault_words::Fault;
+use stack_code::Image;
 use std::alloc::Global;
 use tenant_core::{Log, Shard};
-use typed_code::Image;
 
 // A request that is refused.
 fn refused(alloc: Global, fault: Fault) -> Attempt
@@ -24,26 +25,9 @@ fn refused(alloc: Global, fault: Fault) -> Attempt
     ensures asked { result.log.asked ≡ [] }
     ensures answers { result.log.answers ≡ [] }
 {
-    let counts = Counts {
-        queries: 0,
-        rows: 0,
-        dml: 0,
-        saved: 0,
-        steps: 0,
-    };
-    let reply = Reply {
-        outcome: Outcome::Refused(fault),
-        debug: Items::new(alloc),
-        counts,
-        ops: 0,
-    };
-    let writes = Writes {
-        puts: Items::new(alloc),
-        drops: Items::new(alloc),
-    };
     Attempt {
-        reply,
-        writes,
+        reply: refusal(alloc, fault),
+        writes: no_writes(alloc),
         log: Log::new(alloc),
     }
 }

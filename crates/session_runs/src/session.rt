@@ -7,18 +7,19 @@ ghost use Rattle.save_procedure.specs.Does.{IsSound};
 ghost use Rattle.tenant_core.specs.Shards.{told_at, part_at};
 ghost use Rattle.tenant_trails.specs.Legal.{Closed};
 ghost use Rattle.session_runs.specs.Replies.{IsRunOf};
-ghost use Rattle.typed_statements.specs.declared.stmt.TypedStmt.{TypedStmt as Stmt};
+ghost use Rattle.typed_program.specs.declared.program.Program.{Program as Code};
 ghost use Rattle.session_runs.specs.Sessions as spec;
 ghost use Rattle.session_runs.specs.Sessions.{AreChecked, AreImages, HaveUsers, IsNew, IsRun, StandsAt, tenant_of};
 
 use crate::request::run_work;
+use crate::{Attempt, laws_of_blocks};
 use apex_num::NoMemory;
-use apex_schema::{Request, Schema, Ticket};
-use block_requests::{Attempt, laws_of_blocks};
-use session_trails::laws_of_events;
+use apex_requests::{Request, Ticket};
+use apex_schema::Schema;
+use stack_code::Image;
 use std::alloc::Global;
 use tenant_core::{Ended, Shard};
-use typed_code::Image;
+use tenant_trails::laws_of_events;
 
 // The ticket of a request by its number.
 fn ticket_of(request: &Request, index: u32) -> Ticket
@@ -85,8 +86,8 @@ pub fn run_session(
     requires few { length requests.now ≤ 1000000 }
     requires users { HaveUsers requests.now }
     requires new { IsNew (told_at tenant shard.old.tenants) }
-    ensures closed { (blocks : List (Option (List Stmt))) → AreImages blocks images.now → OnOk result (Closed (tenant_of schema.now blocks (rows_in tenant shard.old.rows) (requests.now ∷ [])) (told_at tenant shard.new.tenants).events) }
-    ensures runs { (blocks : List (Option (List Stmt))) → AreImages blocks images.now → OnOk result (IsRunOf schema.now images.now (requests.now ∷ []) (tenant_of schema.now blocks (rows_in tenant shard.old.rows) (requests.now ∷ [])) (told_at tenant shard.new.tenants).events) }
+    ensures closed { (program : Code) → AreImages program.blocks images.now → OnOk result (Closed (tenant_of schema.now program (rows_in tenant shard.old.rows) (requests.now ∷ [])) (told_at tenant shard.new.tenants).events) }
+    ensures runs { (program : Code) → AreImages program.blocks images.now → OnOk result (IsRunOf schema.now images.now (requests.now ∷ []) (tenant_of schema.now program (rows_in tenant shard.old.rows) (requests.now ∷ [])) (told_at tenant shard.new.tenants).events) }
     ensures part { part_at tenant shard.new.tenants ≡ part_at tenant shard.old.tenants }
     ensures order { shard.new.order ≡ shard.old.order }
 {

@@ -18,3 +18,6 @@ one_by bind room {tokens = tokens} {at = at} {o = o} h = one_is tokens bind room
 
 pub deeper_conds : (bind : ℕ → Rule BindTree) {tokens : List Token} {room inside at : ℕ} {o : Result (CondTree × ℕ) Stop} → room ≡ suc inside → Told tokens (conds_of (one bind inside)) at o → Told tokens (conds_of (deeper_one bind room)) at o
 deeper_conds bind {tokens = tokens} {at = at} {o = o} e h = subst (λ r. Told tokens (conds_of (deeper_one bind r)) at o) (sym e) h
+
+pub deeper_cond : (bind : ℕ → Rule BindTree) {tokens : List Token} {room inside at : ℕ} {o : Result (CondTree × ℕ) Stop} → room ≡ suc inside → Told tokens (one bind inside) at o → Told tokens (deeper_one bind room) at o
+deeper_cond bind {tokens = tokens} {at = at} {o = o} e h = subst (λ r. Told tokens (deeper_one bind r) at o) (sym e) h

@@ -3,7 +3,7 @@
 -- `room` is how many forms may still be opened: each `(`, `[` and `{` and each `NOT` opens one.
 use Rattle.std.specs.Prelude.{◌≡◌, ◌+◌, ℕ, zero, suc, List, [], ◌∷◌, Bool, true, false, Option, Some, None}
 use Rattle.apex_text.specs.declared.place.Span.{Span}
-use Rattle.apex_lexer.specs.declared.token.Token.{Token}
+use Rattle.apex_lexer.specs.Reading.{Shown}
 use Rattle.apex_lexer.specs.declared.token.Keyword.{Keyword}
 use Rattle.apex_lexer.specs.declared.token.Keyword.TheVariants.{Select, From, Where, And, Or, Not, In, Like, Order, By, Limit, Offset, Asc, Desc, Nulls, Count, First, Last, For, Update, True, False, Null}
 use Rattle.apex_lexer.specs.declared.token.Sign.{Sign}
@@ -36,7 +36,7 @@ use Rattle.apex_syntax.specs.declared.query.BindTree.TheVariants.{Tokens}
 use Rattle.soql_parse.specs.declared.select.FromPart.{FromPart}
 use Rattle.token_grammar.specs.declared.fault.ParseWord.TheVariants.{TooDeep, MixedAndOr, LockedOrder, TooManyLevels}
 use Rattle.token_grammar.specs.declared.read.Names.TheVariants.{InQuery, InCode, AllWords}
-use Rattle.token_grammar.specs.Notation.{Rule, Give, Refuse, Here, Since, Take, Then, Choose, Many, Test, kind_at}
+use Rattle.token_grammar.specs.Notation.{Rule, Give, Refuse, Here, Since, Take, Then, Choose, Many, Test, span, kind_at}
 use Rattle.token_grammar.specs.Tokens.{sign, word, name, next_sign, next_word, optional, skip, open_sign, open_word, refuse_here}
 use Rattle.token_grammar.specs.Literals.{literal_bytes}
 
@@ -63,7 +63,7 @@ closing (IsSign OpenBracket) = Some CloseBracket
 closing (IsSign OpenBrace) = Some CloseBrace
 closing _ = None
 
-abbrev pub opens : Token → Option Sign
+abbrev pub opens : Shown → Option Sign
 opens t = closing t.kind
 
 abbrev pub is_opening : TokenKind → Bool
@@ -140,7 +140,7 @@ number_kind (LongToken n) = Some (Long n)
 number_kind (DecimalToken n) = Some (Decimal n)
 number_kind _ = None
 
-abbrev pub number_of : Token → Option NumberTree
+abbrev pub number_of : Shown → Option NumberTree
 number_of t = number_kind t.kind
 
 abbrev pub number : Rule NumberTree
@@ -158,8 +158,8 @@ literal_kind s text (IsWord False) = Some (Truth s false)
 literal_kind s text (IsWord Null) = Some (Nothing s)
 literal_kind s text _ = None
 
-abbrev pub literal_of : Token → Option ValueTree
-literal_of t = literal_kind t.span t.text.now t.kind
+abbrev pub literal_of : Shown → Option ValueTree
+literal_of t = literal_kind (span t) t.bytes t.kind
 
 abbrev pub literal : Rule ValueTree
 literal = Take literal_of
@@ -193,8 +193,8 @@ abbrev pub whole_kind : Span → TokenKind → Option CountTree
 whole_kind s (IntegerToken n) = Some (Whole s n)
 whole_kind s _ = None
 
-abbrev pub whole_of : Token → Option CountTree
-whole_of t = whole_kind t.span t.kind
+abbrev pub whole_of : Shown → Option CountTree
+whole_of t = whole_kind (span t) t.kind
 
 abbrev pub whole : Rule CountTree
 whole = Take whole_of
@@ -213,7 +213,7 @@ op_kind (IsSign AtLeastSign) = Some AtLeast
 op_kind (IsWord Like) = Some IsLike
 op_kind _ = None
 
-abbrev pub op_of : Token → Option CompareOp
+abbrev pub op_of : Shown → Option CompareOp
 op_of t = op_kind t.kind
 
 -- `<>` is two tokens

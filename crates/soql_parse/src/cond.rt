@@ -14,8 +14,8 @@ use apex_list::{Boxed, Items};
 use apex_syntax::{BindTree, CompareOp, CondTree, PathTree};
 use std::alloc::Global;
 use token_grammar::{
-    ParseWord, Stop, is_sign, is_word, open_sign, open_word, pass_sign, pass_word, span_of,
-    token_at,
+    ParseWord, Stop, add, boxed, is_sign, is_word, open_sign, open_word, pass_sign, pass_word,
+    span_of, token_at,
 };
 
 // `<` and `<>`
@@ -79,7 +79,7 @@ fn not_within<K: BindRule, B: Fn(usize, usize) -> Result<(BindTree, usize), Stop
     start: usize,
     path: PathTree,
     binds: &Binds<K, B>,
-) -> Result<(CondTree, usize), Stop>
+) -> Result<(Boxed<CondTree>, usize), Stop>
     requires calls { B.IsAlwaysCallable binds.now.read }
     requires told { BindsBy tokens.now (B.post binds.now.read) (K.rule binds.now.how) }
     ensures { Told tokens.now (grammar.not_within (K.rule binds.now.how) room start path) at result }
@@ -88,7 +88,7 @@ fn not_within<K: BindRule, B: Fn(usize, usize) -> Result<(BindTree, usize), Stop
     let behind = pass_word(tokens, behind, Keyword::In)?;
     let (list, end) = list(alloc, tokens, behind, room, binds)?;
     let span = span_of(tokens, start, end);
-    Ok((CondTree::Within(span, path, true, list), end))
+    boxed(alloc, CondTree::Within(span, path, true, list), end)
 }
 
 // `IN` and a list.
@@ -100,7 +100,7 @@ fn within<K: BindRule, B: Fn(usize, usize) -> Result<(BindTree, usize), Stop>>(
     start: usize,
     path: PathTree,
     binds: &Binds<K, B>,
-) -> Result<(CondTree, usize), Stop>
+) -> Result<(Boxed<CondTree>, usize), Stop>
     requires calls { B.IsAlwaysCallable binds.now.read }
     requires told { BindsBy tokens.now (B.post binds.now.read) (K.rule binds.now.how) }
     ensures { Told tokens.now (grammar.within (K.rule binds.now.how) room start path) at result }
@@ -108,7 +108,7 @@ fn within<K: BindRule, B: Fn(usize, usize) -> Result<(BindTree, usize), Stop>>(
     let behind = pass_word(tokens, at, Keyword::In)?;
     let (list, end) = list(alloc, tokens, behind, room, binds)?;
     let span = span_of(tokens, start, end);
-    Ok((CondTree::Within(span, path, false, list), end))
+    boxed(alloc, CondTree::Within(span, path, false, list), end)
 }
 
 // An operator and a value.
@@ -120,7 +120,7 @@ fn compared<K: BindRule, B: Fn(usize, usize) -> Result<(BindTree, usize), Stop>>
     start: usize,
     path: PathTree,
     binds: &Binds<K, B>,
-) -> Result<(CondTree, usize), Stop>
+) -> Result<(Boxed<CondTree>, usize), Stop>
     requires calls { B.IsAlwaysCallable binds.now.read }
     requires told { BindsBy tokens.now (B.post binds.now.read) (K.rule binds.now.how) }
     ensures { Told tokens.now (grammar.compared (K.rule binds.now.how) room start path) at result }
@@ -128,7 +128,7 @@ fn compared<K: BindRule, B: Fn(usize, usize) -> Result<(BindTree, usize), Stop>>
     let (op, behind) = op(tokens, at)?;
     let (value, end) = value(alloc, tokens, behind, room, binds)?;
     let span = span_of(tokens, start, end);
-    Ok((CondTree::Compare(span, path, op, value), end))
+    boxed(alloc, CondTree::Compare(span, path, op, value), end)
 }
 
 // What stands behind a path that began at `start`.
@@ -140,7 +140,7 @@ fn test_of<K: BindRule, B: Fn(usize, usize) -> Result<(BindTree, usize), Stop>>(
     start: usize,
     path: PathTree,
     binds: &Binds<K, B>,
-) -> Result<(CondTree, usize), Stop>
+) -> Result<(Boxed<CondTree>, usize), Stop>
     requires calls { B.IsAlwaysCallable binds.now.read }
     requires told { BindsBy tokens.now (B.post binds.now.read) (K.rule binds.now.how) }
     ensures { Told tokens.now (grammar.test_of (K.rule binds.now.how) room start path) at result }
@@ -161,7 +161,7 @@ fn simple<K: BindRule, B: Fn(usize, usize) -> Result<(BindTree, usize), Stop>>(
     at: usize,
     room: usize,
     binds: &Binds<K, B>,
-) -> Result<(CondTree, usize), Stop>
+) -> Result<(Boxed<CondTree>, usize), Stop>
     requires calls { B.IsAlwaysCallable binds.now.read }
     requires told { BindsBy tokens.now (B.post binds.now.read) (K.rule binds.now.how) }
     ensures { Told tokens.now (grammar.simple (K.rule binds.now.how) room) at result }
@@ -178,7 +178,7 @@ fn one<K: BindRule, B: Fn(usize, usize) -> Result<(BindTree, usize), Stop>>(
     at: usize,
     room: usize,
     binds: &Binds<K, B>,
-) -> Result<(CondTree, usize), Stop>
+) -> Result<(Boxed<CondTree>, usize), Stop>
     requires calls { B.IsAlwaysCallable binds.now.read }
     requires told { BindsBy tokens.now (B.post binds.now.read) (K.rule binds.now.how) }
     ensures { Told tokens.now (grammar.one (K.rule binds.now.how) room) at result }
@@ -200,7 +200,7 @@ fn negation<K: BindRule, B: Fn(usize, usize) -> Result<(BindTree, usize), Stop>>
     at: usize,
     room: usize,
     binds: &Binds<K, B>,
-) -> Result<(CondTree, usize), Stop>
+) -> Result<(Boxed<CondTree>, usize), Stop>
     requires calls { B.IsAlwaysCallable binds.now.read }
     requires told { BindsBy tokens.now (B.post binds.now.read) (K.rule binds.now.how) }
     ensures { Told tokens.now (grammar.negation room (grammar.deeper_one (K.rule binds.now.how) room)) at result }
@@ -208,7 +208,7 @@ fn negation<K: BindRule, B: Fn(usize, usize) -> Result<(BindTree, usize), Stop>>
     let (inside, behind) = open_word(tokens, at, Keyword::Not, room)?;
     let (inner, end) = one(alloc, tokens, behind, inside, binds)?;
     let span = span_of(tokens, at, end);
-    Ok((CondTree::Not(span, Boxed::new(alloc, inner)?), end))
+    boxed(alloc, CondTree::Not(span, inner), end)
 }
 
 // A condition in parentheses.
@@ -219,7 +219,7 @@ fn enclosed<K: BindRule, B: Fn(usize, usize) -> Result<(BindTree, usize), Stop>>
     at: usize,
     room: usize,
     binds: &Binds<K, B>,
-) -> Result<(CondTree, usize), Stop>
+) -> Result<(Boxed<CondTree>, usize), Stop>
     requires calls { B.IsAlwaysCallable binds.now.read }
     requires told { BindsBy tokens.now (B.post binds.now.read) (K.rule binds.now.how) }
     ensures { Told tokens.now (grammar.enclosed room (grammar.deeper_one (K.rule binds.now.how) room)) at result }
@@ -228,7 +228,7 @@ fn enclosed<K: BindRule, B: Fn(usize, usize) -> Result<(BindTree, usize), Stop>>
     let (inner, behind) = cond(alloc, tokens, behind, inside, binds)?;
     let end = pass_sign(tokens, behind, Sign::CloseParen)?;
     let span = span_of(tokens, at, end);
-    Ok((CondTree::Paren(span, Boxed::new(alloc, inner)?), end))
+    boxed(alloc, CondTree::Paren(span, inner), end)
 }
 
 // A link and a condition.
@@ -240,7 +240,7 @@ fn linked<K: BindRule, B: Fn(usize, usize) -> Result<(BindTree, usize), Stop>>(
     room: usize,
     link: Keyword,
     binds: &Binds<K, B>,
-) -> Result<(CondTree, usize), Stop>
+) -> Result<(Boxed<CondTree>, usize), Stop>
     requires calls { B.IsAlwaysCallable binds.now.read }
     requires told { BindsBy tokens.now (B.post binds.now.read) (K.rule binds.now.how) }
     ensures { Told tokens.now (grammar.linked link (grammar.one (K.rule binds.now.how) room)) at result }
@@ -257,7 +257,7 @@ fn chain<K: BindRule, B: Fn(usize, usize) -> Result<(BindTree, usize), Stop>>(
     at: usize,
     room: usize,
     link: Keyword,
-    first: CondTree,
+    first: Boxed<CondTree>,
     binds: &Binds<K, B>,
 ) -> Result<(Items<CondTree>, usize), Stop>
     requires calls { B.IsAlwaysCallable binds.now.read }
@@ -265,11 +265,11 @@ fn chain<K: BindRule, B: Fn(usize, usize) -> Result<(BindTree, usize), Stop>>(
     ensures { Told tokens.now (grammar.chain link first (grammar.one (K.rule binds.now.how) room)) at result }
 {
     let mut conds = Items::new(alloc);
-    conds.push(first)?;
+    add(&mut conds, first)?;
     let mut end = at;
     'conds: while is_word(tokens, end, link) {
         let (cond, after) = linked(alloc, tokens, end, room, link, binds)?;
-        conds.push(cond)?;
+        add(&mut conds, cond)?;
         end = after;
     }
     Ok((conds, end))
@@ -283,9 +283,9 @@ fn all_of<K: BindRule, B: Fn(usize, usize) -> Result<(BindTree, usize), Stop>>(
     at: usize,
     room: usize,
     start: usize,
-    first: CondTree,
+    first: Boxed<CondTree>,
     binds: &Binds<K, B>,
-) -> Result<(CondTree, usize), Stop>
+) -> Result<(Boxed<CondTree>, usize), Stop>
     requires calls { B.IsAlwaysCallable binds.now.read }
     requires told { BindsBy tokens.now (B.post binds.now.read) (K.rule binds.now.how) }
     ensures { Told tokens.now (grammar.all_of start first (grammar.one (K.rule binds.now.how) room)) at result }
@@ -294,7 +294,8 @@ fn all_of<K: BindRule, B: Fn(usize, usize) -> Result<(BindTree, usize), Stop>>(
     if is_word(tokens, end, Keyword::Or) {
         return Err(Stop::At(ParseWord::MixedAndOr, end));
     }
-    Ok((CondTree::All(span_of(tokens, start, end), conds), end))
+    let span = span_of(tokens, start, end);
+    boxed(alloc, CondTree::All(span, conds), end)
 }
 
 // A first condition and those behind it with `OR`.
@@ -305,9 +306,9 @@ fn any_of<K: BindRule, B: Fn(usize, usize) -> Result<(BindTree, usize), Stop>>(
     at: usize,
     room: usize,
     start: usize,
-    first: CondTree,
+    first: Boxed<CondTree>,
     binds: &Binds<K, B>,
-) -> Result<(CondTree, usize), Stop>
+) -> Result<(Boxed<CondTree>, usize), Stop>
     requires calls { B.IsAlwaysCallable binds.now.read }
     requires told { BindsBy tokens.now (B.post binds.now.read) (K.rule binds.now.how) }
     ensures { Told tokens.now (grammar.any_of start first (grammar.one (K.rule binds.now.how) room)) at result }
@@ -316,7 +317,8 @@ fn any_of<K: BindRule, B: Fn(usize, usize) -> Result<(BindTree, usize), Stop>>(
     if is_word(tokens, end, Keyword::And) {
         return Err(Stop::At(ParseWord::MixedAndOr, end));
     }
-    Ok((CondTree::Any(span_of(tokens, start, end), conds), end))
+    let span = span_of(tokens, start, end);
+    boxed(alloc, CondTree::Any(span, conds), end)
 }
 
 /// A condition.
@@ -327,7 +329,7 @@ pub fn cond<K: BindRule, B: Fn(usize, usize) -> Result<(BindTree, usize), Stop>>
     at: usize,
     room: usize,
     binds: &Binds<K, B>,
-) -> Result<(CondTree, usize), Stop>
+) -> Result<(Boxed<CondTree>, usize), Stop>
     requires calls { B.IsAlwaysCallable binds.now.read }
     requires told { BindsBy tokens.now (B.post binds.now.read) (K.rule binds.now.how) }
     ensures { Told tokens.now (grammar.cond (K.rule binds.now.how) room) at result }

@@ -3,6 +3,7 @@
 ghost use Rattle.std.specs.Prelude.{◌≡◌, ◌<◌, MatchBool, IfOk};
 ghost use Rattle.token_grammar.specs.Readings.{Told};
 ghost use Rattle.token_grammar.specs.Tokens.{skip};
+ghost use Rattle.token_grammar.specs.Notation.{seen};
 ghost use Rattle.soql_parse.specs.Queries as grammar;
 
 use apex_lexer::{Sign, Token, TokenKind};
@@ -24,7 +25,7 @@ fn closing(kind: TokenKind) -> Option<Sign>
 
 // Whether the token at a place opens a group.
 fn is_opening(tokens: &[Token], at: usize) -> bool
-    ensures { MatchBool result (grammar.next_opening tokens.now at) (grammar.next_opening tokens.now at → ⊥) }
+    ensures { MatchBool result (grammar.next_opening (seen tokens.now) at) (grammar.next_opening (seen tokens.now) at → ⊥) }
 {
     match kind_at(tokens, at) {
         TokenKind::Sign(sign) => match sign {
@@ -37,7 +38,7 @@ fn is_opening(tokens: &[Token], at: usize) -> bool
 
 // Whether the token at a place is neither a closing sign nor the end.
 fn is_inner(tokens: &[Token], at: usize) -> bool
-    ensures { MatchBool result (grammar.next_inner tokens.now at) (grammar.next_inner tokens.now at → ⊥) }
+    ensures { MatchBool result (grammar.next_inner (seen tokens.now) at) (grammar.next_inner (seen tokens.now) at → ⊥) }
 {
     match kind_at(tokens, at) {
         TokenKind::Sign(sign) => match sign {
@@ -121,7 +122,7 @@ fn group(tokens: &[Token], at: usize, room: usize) -> Result<((), usize), Stop>
 
 // Whether the token at a place goes on with a bind.
 fn is_part(tokens: &[Token], at: usize) -> bool
-    ensures { MatchBool result (grammar.next_part tokens.now at) (grammar.next_part tokens.now at → ⊥) }
+    ensures { MatchBool result (grammar.next_part (seen tokens.now) at) (grammar.next_part (seen tokens.now) at → ⊥) }
 {
     match kind_at(tokens, at) {
         TokenKind::Sign(sign) => match sign {

@@ -5,6 +5,7 @@ ghost use Rattle.token_grammar.specs.Readings.{Told, Found, RefusedBy};
 ghost use Rattle.token_grammar.specs.Tokens.{optional, next_word};
 ghost use Rattle.apex_lexer.specs.declared.token.Keyword.TheVariants as keywords;
 ghost use Rattle.soql_parse.specs.Readers.{BindsBy};
+ghost use Rattle.token_grammar.specs.Notation.{seen};
 ghost use Rattle.soql_parse.specs.Queries as grammar;
 
 use crate::binds::Binds;
@@ -20,15 +21,15 @@ use apex_syntax::{BindTree, CondTree, CountTree, OrderTree, QueryTree, SelTree, 
 use apex_text::Span;
 use std::alloc::Global;
 use token_grammar::{
-    Names, ParseFault, ParseWord, Stop, fault_of, is_sign, is_word, name, open_sign, pass_sign,
-    pass_word, span_of,
+    Names, ParseFault, ParseWord, Stop, boxed, fault_of, is_sign, is_word, name, open_sign,
+    pass_sign, pass_word, span_of,
 };
 
 // What stands behind `FROM`.
-#[derive(Debug, Drop)]
+#[derive(Drop)]
 pub struct FromPart {
     pub object: Word,
-    pub cond: Option<CondTree>,
+    pub cond: Option<Boxed<CondTree>>,
     pub order: Option<OrderTree>,
     pub limit: Option<CountTree>,
     pub offset: Option<CountTree>,
@@ -40,7 +41,7 @@ fn where_part<K: BindRule, B: Fn(usize, usize) -> Result<(BindTree, usize), Stop
     at: usize,
     room: usize,
     binds: &Binds<K, B>,
-) -> Result<(Option<CondTree>, usize), Stop>
+) -> Result<(Option<Boxed<CondTree>>, usize), Stop>
     requires calls { B.IsAlwaysCallable binds.now.read }
     requires told { BindsBy tokens.now (B.post binds.now.read) (K.rule binds.now.how) }
     ensures { Told tokens.now (optional (next_word keywords.Where) (grammar.where_part (K.rule binds.now.how) room)) at result }
@@ -208,7 +209,7 @@ fn sub_query<K: BindRule, B: Fn(usize, usize) -> Result<(BindTree, usize), Stop>
     at: usize,
     room: usize,
     binds: &Binds<K, B>,
-) -> Result<(QueryTree, usize), Stop>
+) -> Result<(Boxed<QueryTree>, usize), Stop>
     requires calls { B.IsAlwaysCallable binds.now.read }
     requires told { BindsBy tokens.now (B.post binds.now.read) (K.rule binds.now.how) }
     ensures { Told tokens.now (grammar.sub_query (K.rule binds.now.how) room) at result }
@@ -218,7 +219,7 @@ fn sub_query<K: BindRule, B: Fn(usize, usize) -> Result<(BindTree, usize), Stop>
     let behind = pass_word(tokens, behind, Keyword::From)?;
     let (source, end) = source(alloc, tokens, behind, room, binds)?;
     let span = span_of(tokens, at, end);
-    Ok((query_tree(span, select, source, false), end))
+    boxed(alloc, query_tree(span, select, source, false), end)
 }
 
 // A subquery in its parentheses.
@@ -237,7 +238,7 @@ fn sub_paren<K: BindRule, B: Fn(usize, usize) -> Result<(BindTree, usize), Stop>
     let (query, behind) = sub_query(alloc, tokens, behind, inside, binds)?;
     let end = pass_sign(tokens, behind, Sign::CloseParen)?;
     let span = span_of(tokens, at, end);
-    Ok((SelTree::Query(span, Boxed::new(alloc, query)?), end))
+    Ok((SelTree::Query(span, query), end))
 }
 
 fn item<K: BindRule, B: Fn(usize, usize) -> Result<(BindTree, usize), Stop>>(
@@ -315,7 +316,7 @@ fn items<K: BindRule, B: Fn(usize, usize) -> Result<(BindTree, usize), Stop>>(
 
 // Whether `COUNT` and a parenthesis stand here.
 fn is_count(tokens: &[Token], at: usize) -> bool
-    ensures { MatchBool result (grammar.next_count tokens.now at) (grammar.next_count tokens.now at → ⊥) }
+    ensures { MatchBool result (grammar.next_count (seen tokens.now) at) (grammar.next_count (seen tokens.now) at → ⊥) }
 {
     is_word(tokens, at, Keyword::Count) && is_sign(tokens, at + 1, Sign::OpenParen)
 }
@@ -384,7 +385,7 @@ pub fn query_within<K: BindRule, B: Fn(usize, usize) -> Result<(BindTree, usize)
     at: usize,
     room: usize,
     binds: &Binds<K, B>,
-) -> Result<(QueryTree, usize), Stop>
+) -> Result<(Boxed<QueryTree>, usize), Stop>
     requires calls { B.IsAlwaysCallable binds.now.read }
     requires told { BindsBy tokens.now (B.post binds.now.read) (K.rule binds.now.how) }
     ensures { Told tokens.now (grammar.query (K.rule binds.now.how) room) at result }
@@ -395,7 +396,7 @@ pub fn query_within<K: BindRule, B: Fn(usize, usize) -> Result<(BindTree, usize)
     let (source, behind) = source(alloc, tokens, behind, room, binds)?;
     let (locked, end) = lock(tokens, behind, has_order(&source))?;
     let span = span_of(tokens, at, end);
-    Ok((query_tree(span, select, source, locked), end))
+    boxed(alloc, query_tree(span, select, source, locked), end)
 }
 
 // Binds are kept as their tokens.
@@ -408,7 +409,11 @@ impl BindRule for Ranges {
 
 /// The query that begins at a token, and the place behind it. At most 64 forms are open at once. Its binds are kept as
 /// their tokens.
-pub fn query(alloc: Global, tokens: &[Token], at: usize) -> Result<(QueryTree, usize), ParseFault>
+pub fn query(
+    alloc: Global,
+    tokens: &[Token],
+    at: usize,
+) -> Result<(Boxed<QueryTree>, usize), ParseFault>
     ensures { MatchResult result (λ r. Found tokens.now (grammar.query grammar.range 64) at r.0 r.1) (λ e. RefusedBy tokens.now (grammar.query grammar.range 64) at e) }
 {
     let read = |place: usize, room: usize| -> Result<(BindTree, usize), Stop>

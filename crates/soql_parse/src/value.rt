@@ -1,6 +1,7 @@
 // Values, lists of them, and counts.
 
 ghost use Rattle.std.specs.Prelude.{◌≡◌, IfOk};
+ghost use Rattle.apex_lexer.specs.Reading.{shown};
 ghost use Rattle.token_grammar.specs.Readings.{Told};
 ghost use Rattle.token_grammar.specs.Notation.{Many};
 ghost use Rattle.token_grammar.specs.Tokens.{next_sign};
@@ -52,7 +53,7 @@ fn negative(tokens: &[Token], at: usize) -> Result<(ValueTree, usize), Stop>
 
 // The value that one token is.
 fn literal_of(alloc: Global, token: &Token) -> Result<Option<ValueTree>, AllocError>
-    ensures { IfOk result (λ value. value ≡ grammar.literal_of token.now) }
+    ensures { IfOk result (λ value. value ≡ grammar.literal_of (shown token.now)) }
 {
     let span = token.span;
     if let Some(number) = number_of(token.kind) {

@@ -1,60 +1,93 @@
--- The image of a block is checked and means it.
-use Rattle.std.proofs.Common.{◌≡◌, ℕ, zero, suc, [], ◌∷◌, Option, Some, refl, sym, ap, ◌∙◌, subst}
+-- An image whose body is the code of a block means the block.
+use Rattle.std.proofs.Common.{◌≡◌, ℕ, zero, suc, List, [], ◌∷◌, Option, None, Some, refl, sym, ap, ◌∙◌, subst, append-nil}
 use Rattle.limit_meter.proofs.Counted.{counts_none}
-use Rattle.apex_syntax.specs.declared.typed.Block.{Block}
-use Rattle.apex_meaning.specs.declared.value.Abrupt.TheVariants.{Throws}
-use Rattle.apex_meaning.specs.declared.reply.Outcome.TheVariants.{Ok, Thrown}
-use Rattle.apex_meaning.specs.Values.{class_of, message_of}
-use Rattle.apex_meaning.specs.Results.{State, Leaves, Closes, Halts, Res, Gives, Stops, Holds}
-use Rattle.apex_meaning.specs.Meaning.{does_all, End, end_of, first_state, run}
-use Rattle.stack_code.specs.declared.code.Image.{Image}
+use Rattle.platform_errors.specs.Messages.{class, message}
+use Rattle.builtin_table.specs.Answers.{class_name}
+use Rattle.apex_rows.specs.declared.query.Answer.{Answer}
+use Rattle.apex_rows.specs.declared.query.Question.{Question}
+use Rattle.apex_requests.specs.declared.reply.Outcome.TheVariants as O
+use Rattle.apex_meaning.specs.Refusals.{no_writes}
+use Rattle.tenant_trails.specs.Runs as Trail
+use Rattle.txn_overlay.specs.Changes.{writes_of}
+use Rattle.txn_overlay.specs.Journals.{Layers}
+use Rattle.typed_program.specs.declared.stmt.TypedStmt.{TypedStmt}
+use Rattle.apex_meaning.specs.States.{State, Throws, Halts, Needs, Unbuilt, Leaves, Closes, Res, Gives, Stops}
+use Rattle.apex_meaning.specs.Statements.{does_all}
+use Rattle.apex_meaning.specs.Runs.{ended, run_of, first_state, block_run}
 use Rattle.stack_code.specs.declared.code.Config.{Config}
-use Rattle.stack_code.specs.Machine.{Next, Goes, Over, Stuck, act, step, over_at, drive, steps, Ends, start}
-use Rattle.stack_code.specs.Checked.{IsFed, IsChecked}
+use Rattle.stack_code.specs.declared.code.Image.{Image}
 use Rattle.stack_code.proofs.Fetch.{fetch_none}
-use Rattle.stack_compiler.specs.Code.{stmts_code, HasSlots}
-use Rattle.stack_compiler.specs.Means.{Means}
-use Rattle.stack_compiler.proofs.Feeds.{stmts_fed}
-use Rattle.stack_compiler.proofs.Simulates.{Metered, config, same_end, Runs, At, Stopped, stmts_at}
+use Rattle.stack_code.specs.Checked.{IsFed}
+use Rattle.stack_code.specs.Machine.{Next, Goes, Asks, Over, Stuck, act, step, given, over_at, answered, drive, steps, Ends, start}
+use Rattle.stack_compiler.specs.Code.{block_code}
+use Rattle.stack_compiler.specs.Means.{CodeMeansBlocks}
+use Rattle.stack_compiler.proofs.Simulates.{Holds, config, same_reply, At, Stopped, stepped}
+use Rattle.stack_compiler.proofs.Trees.{stmts_at}
+use Rattle.stack_compiler.proofs.Feeds.{block_fed}
+use Rattle.save_meaning.specs.Sites.{Site}
 
--- a machine has one end, and comes to it in one number of steps
-over_unique : (n m : ℕ) (o d e : End) → over_at n o ≡ Some d → over_at m o ≡ Some e → d ≡ e
-over_unique zero zero o d e h k = cc
-over_unique zero (suc m) o d e h k = cc
-over_unique (suc n) m o d e h k = cc
+module _ (site : Site) (image : Image) where
+  -- ---- on a tape a machine has one end, and comes to it in one number of steps
 
-drive_unique : (x : Next) (n m : ℕ) (f g : Config → Option End) → ((c : Config) (d e : End) → f c ≡ Some d → g c ≡ Some e → d ≡ e) → (d e : End) → drive n f x ≡ Some d → drive m g x ≡ Some e → d ≡ e
-drive_unique (Goes c) n m f g ih d e h k = ih c d e h k
-drive_unique (Over o) n m f g ih d e h k = over_unique n m o d e h k
-drive_unique Stuck n m f g ih d e h k = cc
+  over_unique : (n m : ℕ) (o d e : Trail.Run) → over_at n o ≡ Some d → over_at m o ≡ Some e → d ≡ e
+  over_unique zero zero o d e h k = cc
+  over_unique zero (suc m) o d e h k = cc
+  over_unique (suc n) m o d e h k = cc
 
-pub ends_unique : (image : Image) (n m : ℕ) (c : Config) (d e : End) → Ends image c n d → Ends image c m e → d ≡ e
-ends_unique image zero m c d e h k = cc
-ends_unique image (suc n) zero c d e h k = cc
-ends_unique image (suc n) (suc m) c d e h k =
-    drive_unique (step image c) n m (steps image n) (steps image m) (λ b x y. ends_unique image n m b x y) d e h k
+  answer_unique : (n m : ℕ) (q : Question) (c : Config) (tape : List Answer) (f g : Config → List Answer → Option Trail.Run) → ((b : Config) (t : List Answer) (d e : Trail.Run) → f b t ≡ Some d → g b t ≡ Some e → d ≡ e) → (d e : Trail.Run) → answered n f q c tape ≡ Some d → answered m g q c tape ≡ Some e → d ≡ e
+  answer_unique n m q c [] f g ih d e h k = over_unique n m (Trail.Asks q) d e h k
+  answer_unique n m q c (a ∷ tape) f g ih d e h k = ih (given c a) tape d e h k
 
-module _ (image : Image) (e : End) where
-  -- behind the last instruction the request is over
-  finished : (st : State) → e ≡ end_of (Gives tt st) → At image e [] [] st
-  finished st is = record {
-    by = λ pc m h d.
-        (1, ap (λ o. drive 0 (steps image 0) (act o (config pc [] st m))) (fetch_none pc image.body d) ∙ ap Some (same_end Ok st m h ∙ sym is));
-  }
+  drive_unique : (x : Next) (n m : ℕ) (c : Config) (tape : List Answer) (f g : Config → List Answer → Option Trail.Run) → ((b : Config) (t : List Answer) (d e : Trail.Run) → f b t ≡ Some d → g b t ≡ Some e → d ≡ e) → (d e : Trail.Run) → drive n f x c tape ≡ Some d → drive m g x c tape ≡ Some e → d ≡ e
+  drive_unique (Goes b) n m c tape f g ih d e h k = ih b tape d e h k
+  drive_unique (Asks q) n m c tape f g ih d e h k = answer_unique n m q c tape f g ih d e h k
+  drive_unique (Over o) n m c tape f g ih d e h k = over_unique n m o d e h k
+  drive_unique Stuck n m c tape f g ih d e h k = cc
 
-  outermost : (res : Res (Unit {0})) → e ≡ end_of res → Holds (λ _ s. At image e [] [] s) (Stopped image e) res
-  outermost (Gives u st) is = finished st is
-  outermost (Stops (Leaves (Throws x)) st) is = record { by = λ pc temps m h. (1, ap Some (same_end (Thrown (class_of x) (message_of x)) st m h ∙ sym is)) }
-  outermost (Stops (Closes (Halts k n)) st) is = is
+  pub ends_unique : (n m : ℕ) (c : Config) (tape : List Answer) (d e : Trail.Run) → Ends site image c tape n d → Ends site image c tape m e → d ≡ e
+  ends_unique zero m c tape d e h k = cc
+  ends_unique (suc n) zero c tape d e h k = cc
+  ends_unique (suc n) (suc m) c tape d e h k =
+      drive_unique (step site image c) n m c tape (steps site image n) (steps site image m) (λ b t x y g i. ends_unique n m b t x y g i) d e h k
 
-pub means : (b : Block) (image : Image) → HasSlots b → image.locals ≡ b.locals → image.body ≡ stmts_code b.stmts → Means b image
-means b image slots l c = record { checked = checked; ends = ends; only = λ n e h. ends_unique image n ends.0 (start image) e (run b) h ends.1 }
-  where
-    checked : IsChecked image
-    checked = record { fed = subst (λ is. IsFed image.locals 0 is) (sym c) (subst (λ n. IsFed n 0 (stmts_code b.stmts)) (sym l) (stmts_fed b.locals b.stmts slots.each)) }
+  -- ---- behind the last instruction
 
-    first : Metered (first_state b.locals) (0 ∷ 0 ∷ 0 ∷ 0 ∷ 0 ∷ 0 ∷ 0 ∷ 0 ∷ [])
-    first = record { counts = counts_none; eight = refl }
+  module _ (r : Trail.Run) where
+    finished : (st : State) → run_of site (Gives (tt {0}) st) ≡ r → At site image r [] [] st
+    finished st is = record {
+      by = λ pc w a d.
+          stepped site image r (config pc [] st w) st.world.txn.tape (act site None (config pc [] st w))
+          (ap (λ o. act site o (config pc [] st w)) (fetch_none pc image.body d)) (
+            0,
+            ap Some
+                (ap (λ x. Trail.Ends x (writes_of site.ticket.session site.ticket.index w.overlay.now)) (same_reply O.Ok [] st w a)
+                ∙ ap (λ (j : Layers). Trail.Ends (ended O.Ok st.world) (writes_of site.ticket.session site.ticket.index j.now)) a.overlay ∙ is),
+          );
+    }
 
-    ends : (n : ℕ) × Ends image (start image) n (run b)
-    ends = subst (λ n. Runs image (run b) (config 0 [] (first_state n) (0 ∷ 0 ∷ 0 ∷ 0 ∷ 0 ∷ 0 ∷ 0 ∷ 0 ∷ []))) (sym l) ((stmts_at image (run b) b.stmts (first_state b.locals) (outermost image (run b) (does_all b.stmts (first_state b.locals)) refl)).by 0 _ first c)
+    outermost : (res : Res (Unit {0})) → run_of site res ≡ r → Holds (λ u s. At site image r [] [] s) (Stopped site image r) res
+    outermost (Gives u st) is = finished st is
+    outermost (Stops (Leaves (Throws t)) st) is = record {
+      by = λ pc temps w a.
+          stepped site image r _ st.world.txn.tape _ refl
+          (0, ap Some (ap (λ x. Trail.Ends x no_writes) (same_reply (O.Thrown (class_name (class t)) (message t)) [] st w a) ∙ is));
+    }
+    outermost (Stops (Closes (Halts k n)) st) is = is
+    outermost (Stops (Closes (Needs q)) st) is = is
+    outermost (Stops (Closes Unbuilt) st) is = is
+
+  comes : (block : List TypedStmt) → image.body ≡ block_code block → (tape : List Answer) → (n : ℕ) × Ends site image start tape n (block_run site block tape)
+  comes block c tape =
+      (stmts_at site image r block [] [] (first_state tape)
+      (outermost r (does_all site block (first_state tape)) refl)).by 0 start.world.txn
+      (record { overlay = refl; minted = refl; counts = counts_none; eight = refl }) (c ∙ sym (append-nil (block_code block))) where
+        r : Trail.Run
+        r = block_run site block tape
+
+pub means : CodeMeansBlocks
+means block image c = record {
+  checked = record { fed = subst (λ is. IsFed is 0) (sym c) (block_fed block) };
+  ends = λ site tape. comes site image block c tape;
+  only = λ site tape n r h.
+      let e = comes site image block c tape in ends_unique site image n e.0 start tape r (block_run site block tape) h e.1;
+}

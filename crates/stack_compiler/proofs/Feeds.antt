@@ -1,68 +1,296 @@
 -- Compiled code finds its operands.
-use Rattle.std.proofs.Common.{◌≡◌, ℕ, suc, ◌+◌, ◌-◌, ◌<◌, ◌≤◌, cond, nat_lt, List, [], ◌∷◌, ◌++◌, map, Option, Some, None, sym, ap, ◌∙◌, subst, arith, ⊎_elim, append_assoc}
-use Rattle.std.proofs.lemmas.Bool.Decides.{leb_tells}
-use Rattle.apex_syntax.specs.declared.tree.Link.{Link}
-use Rattle.apex_syntax.specs.declared.typed.Expr.{Expr}
-use Rattle.apex_syntax.specs.declared.typed.Expr.TheVariants.{Whole, Local, Minus, Chain}
-use Rattle.apex_syntax.specs.declared.typed.Stmt.{Stmt}
-use Rattle.apex_syntax.specs.declared.typed.Stmt.TheVariants.{Debug, Store as StoreS}
-use Rattle.apex_syntax.specs.Links.{onto, EachRight}
-use Rattle.apex_syntax.proofs.TypedTrees.{by_cases}
-use Rattle.apex_meaning.specs.declared.value.Value.TheVariants.{Whole as WholeV}
+use Rattle.std.proofs.Common.{◌≡◌, ℕ, suc, ◌+◌, ◌-◌, ◌≤◌, Bool, true, false, List, [], ◌∷◌, ◌++◌, length, map, Option, None, Some, refl, sym, ap, ◌∙◌, subst, append_assoc, arith}
+use Rattle.apex_num.specs.declared.cell.Cell.TheVariants as C
+use Rattle.apex_rows.specs.declared.query.Cond.{Cond}
+use Rattle.apex_rows.specs.declared.query.Cond.TheVariants.{All}
+use Rattle.row_meaning.specs.Conds.{local_part}
+use Rattle.apex_syntax.specs.declared.stmt.DmlOp.TheVariants as Dml
+use Rattle.typed_program.specs.declared.stmt.TypedCatch.{TypedCatch}
+use Rattle.typed_program.specs.declared.stmt.TypedLocal.{TypedLocal}
+use Rattle.typed_program.specs.declared.stmt.TypedStmt.{TypedStmt}
+use Rattle.typed_program.specs.declared.stmt.TypedStmt.TheOpen.{TypedStmt-F}
+use Rattle.typed_program.specs.declared.stmt.TypedStmt.TheViews.{roll-TypedStmt}
+use Rattle.typed_program.specs.declared.stmt.TypedStmt.TheFolds.{fold-TypedCatch, fold-roll-TypedStmt, ind-TypedStmt, map-TypedStmt}
+use Rattle.typed_program.specs.declared.expr.CollectionKind.TheVariants as Kind
+use Rattle.typed_program.specs.declared.expr.Constant.{Constant}
+use Rattle.typed_program.specs.declared.expr.Conversion.{Conversion}
+use Rattle.typed_program.specs.declared.expr.Conversion.TheVariants as Conv
+use Rattle.typed_program.specs.declared.expr.Number.TheVariants as Number
+use Rattle.typed_program.specs.declared.expr.TypedOp.{TypedOp}
+use Rattle.typed_program.specs.declared.expr.TypedOp.TheVariants as Op
+use Rattle.typed_program.specs.declared.expr.TypedBind.{TypedBind}
+use Rattle.typed_program.specs.declared.expr.TypedExpr.{TypedExpr}
+use Rattle.typed_program.specs.declared.expr.TypedItem.{TypedItem}
+use Rattle.typed_program.specs.declared.expr.TypedNew.{TypedNew}
+use Rattle.typed_program.specs.declared.expr.TypedOperand.{TypedOperand}
+use Rattle.typed_program.specs.declared.expr.TypedPair.{TypedPair}
+use Rattle.typed_program.specs.declared.expr.TypedPart.{TypedPart}
+use Rattle.typed_program.specs.declared.expr.TypedBind.TheOpen.{TypedExpr-F, TypedNew-F, TypedOperand-F, TypedPair-F}
+use Rattle.typed_program.specs.declared.expr.TypedBind.TheViews.{roll-TypedExpr, roll-TypedNew, roll-TypedOperand, roll-TypedPair}
+use Rattle.typed_program.specs.declared.expr.TypedBind.TheFolds.{fold-TypedBind, fold-TypedPart, fold-TypedItem, fold-roll-TypedExpr, fold-roll-TypedNew, fold-roll-TypedOperand, fold-roll-TypedPair, ind-TypedExpr, map-TypedExpr, map-TypedNew, map-TypedOperand, map-TypedPair}
+use Rattle.apex_meaning.specs.Values.{cell_of, is_cell}
 use Rattle.stack_code.specs.declared.code.Instr.{Instr}
-use Rattle.stack_code.specs.declared.code.Instr.TheVariants.{Step, Push, Load, Store, Negate, Calc, Print}
-use Rattle.stack_code.specs.Checked.{taking, after, IsFedFrom, IsFed}
-use Rattle.stack_compiler.specs.Code.{links_code, expr_code, links_slots, slots_of, stmt_code, stmts_code, FitsStmt, FitsStmts}
-use Rattle.stack_compiler.proofs.Equations.{code-Whole, code-Local, code-Minus, code-Chain, slots-Local, slots-Minus, slots-Chain}
+use Rattle.stack_code.specs.declared.code.Instr.TheVariants as I
+use Rattle.stack_code.specs.Checked.{needs, puts, is_last, FedBy, IsFed}
+use Rattle.stack_compiler.specs.Code
+use Rattle.stack_compiler.specs.Code.{Code as Codes}
 
--- an instruction that takes and puts so many
-takes : (takes puts height rest n : ℕ) (k : List Instr) → takes ≤ height → rest + takes ≡ height + puts → IsFed n rest k → IsFedFrom (taking takes puts height) n k
-takes t p h r n k le e fed =
-    let same : h - t + p ≡ r = omega arith in
-    let is : taking t p h ≡ Some r =
-    ⊎_elim (λ x. absurd (omega (arith, x.1))) (λ x. ap (λ b. cond b None (Some (h - t + p))) x.0 ∙ ap Some same) (leb_tells (suc h) t) in
-    subst (λ o. IsFedFrom o n k) (sym is) fed
+-- an instruction that finds what it takes
+one : (i : Instr) (k : List Instr) (h r : ℕ) → needs i ≤ h → r + needs i ≡ h + puts i → IsFed k r → IsFed (i ∷ k) h
+one i k h r le e fed = by (is_last i) where
+  by : (b : Bool) → FedBy b (needs i) (puts i) h (IsFed k)
+  by true = tt
+  by false = let same : r ≡ h - needs i + puts i = omega arith in (le, subst (IsFed k) same fed)
 
-slot : (x n : ℕ) (o : Option ℕ) (k : List Instr) → x < n → IsFedFrom o n k → IsFedFrom (cond (nat_lt x n) o None) n k
-slot x n o k lt fed =
-    let is : cond (nat_lt x n) o None ≡ o = ⊎_elim (λ t. ap (λ b. cond b o None) t.0) (λ t. absurd (omega (arith, t.1))) (leb_tells (suc x) n) in
-    subst (λ p. IsFedFrom p n k) (sym is) fed
+-- code that puts one value, and code that goes on with one
+abbrev pub Puts : Codes → Type 0
+Puts is = (h : ℕ) (k : List Instr) → IsFed k (h + 1) → IsFed (is ++ k) h
 
-module _ (n : ℕ) where
-  -- an expression puts one value
-  abbrev Puts : Expr → Type 0
-  Puts e = slots_of e ≤ n → (h : ℕ) (k : List Instr) → IsFed n (h + 1) k → IsFed n h (expr_code e ++ k)
+abbrev pub Takes : Codes → Type 0
+Takes is = (h : ℕ) (k : List Instr) → IsFed k (h + 1) → IsFed (is ++ k) (h + 1)
 
-  with_code : (e : Expr) (is k : List Instr) (h : ℕ) → expr_code e ≡ is → IsFed n h (is ++ k) → IsFed n h (expr_code e ++ k)
-  with_code e is k h eq fed = subst (λ c. IsFed n h (c ++ k)) (sym eq) fed
+-- code that leaves the stack as it was
+abbrev pub Keeps : Codes → Type 0
+Keeps is = (h : ℕ) (k : List Instr) → IsFed k h → IsFed (is ++ k) h
 
-  links : (ls : List (Link Expr)) → EachRight Puts ls → links_slots (map (onto slots_of) ls) ≤ n → (h : ℕ) (k : List Instr) → IsFed n (h + 1) k → IsFed n (h + 1) (links_code (map (onto expr_code) ls) ++ k)
-  links [] each le h k fed = fed
-  links (l ∷ ls) each le h k fed =
-      let c = links_code (map (onto expr_code) ls) in
-      let a : slots_of l.right ≤ n = omega arith in
-      let b : links_slots (map (onto slots_of) ls) ≤ n = omega arith in
-      let here : IsFed n (h + 1) (expr_code l.right ++ (Calc l.op ∷ (c ++ k))) =
-      each.0 a (h + 1) (Calc l.op ∷ (c ++ k)) (takes 2 1 (h + 1 + 1) (h + 1) n (c ++ k) (omega arith) (omega arith) (links ls each.1 b h k fed)) in
-      subst (λ x. IsFed n (h + 1) x) (sym (append_assoc (expr_code l.right) (Calc l.op ∷ c) k)) here
+puts_same : (is js : Codes) → is ≡ js → Puts js → Puts is
+puts_same is js e h = subst Puts (sym e) h
 
-  pub expr_fed : (e : Expr) → Puts e
-  expr_fed = by_cases Puts
-      (λ v le h k fed. with_code (Whole v) (Push (WholeV v) ∷ []) k h (code-Whole v) (takes 0 1 h (h + 1) n k (omega arith) (omega arith) fed))
-      (λ x le h k fed. let lt : x < n = omega (arith, slots-Local x) in with_code (Local x) (Load x ∷ []) k h (code-Local x) (slot x n (taking 0 1 h) k lt (takes 0 1 h (h + 1) n k (omega arith) (omega arith) fed)))
-      (λ e p le h k fed. let l : slots_of e ≤ n = omega (arith, slots-Minus e) in with_code (Minus e) (expr_code e ++ Negate ∷ []) k h (code-Minus e) (subst (λ c. IsFed n h c) (sym (append_assoc (expr_code e) (Negate ∷ []) k)) (p l h (Negate ∷ k) (takes 1 1 (h + 1) (h + 1) n k (omega arith) (omega arith) fed))))
-      (λ e ls p each le h k fed. let s = slots-Chain e ls in let l : slots_of e ≤ n = omega arith in let r : links_slots (map (onto slots_of) ls) ≤ n = omega arith in with_code (Chain e ls) (expr_code e ++ links_code (map (onto expr_code) ls)) k h (code-Chain e ls) (subst (λ c. IsFed n h c) (sym (append_assoc (expr_code e) (links_code (map (onto expr_code) ls)) k)) (p l h (links_code (map (onto expr_code) ls) ++ k) (links ls each r h k fed))))
+puts_then : (is js : Codes) → Puts is → Takes js → Puts (is ++ js)
+puts_then is js p t h k fed = subst (λ c. IsFed c h) (sym (append_assoc is js k)) (p h (js ++ k) (t h k fed))
 
-  -- a value and what is done with it
-  value_fed : (e : Expr) (i : Instr) (k : List Instr) → slots_of e ≤ n → IsFedFrom (after n 1 i) n k → IsFed n 0 (Step ∷ (expr_code e ++ i ∷ []) ++ k)
-  value_fed e i k le fed =
-      takes 0 0 0 0 n ((expr_code e ++ i ∷ []) ++ k) (omega arith) (omega arith)
-      (subst (λ c. IsFed n 0 c) (sym (append_assoc (expr_code e) (i ∷ []) k)) (expr_fed e le 0 (i ∷ k) fed))
+puts_unbuilt : Puts Code.unbuilt
+puts_unbuilt h k fed = tt
 
-  stmt_fed : (s : Stmt) (k : List Instr) → FitsStmt n s → IsFed n 0 k → IsFed n 0 (stmt_code s ++ k)
-  stmt_fed (Debug e) k fits fed = value_fed e Print k fits (takes 1 0 1 0 n k (omega arith) (omega arith) fed)
-  stmt_fed (StoreS x e) k fits fed = let lt : x < n = let f = fits.0 in omega arith in value_fed e (Store x) k fits.1 (slot x n (taking 1 0 1) k lt (takes 1 0 1 0 n k (omega arith) (omega arith) fed))
+constant_fed : (b : Bool) (x : Constant) → Puts (Code.constant_code b x)
+constant_fed true x h k fed = one (I.Push (cell_of x)) k h (h + 1) (omega arith) (omega arith) fed
+constant_fed false x h k fed = tt
 
-  pub stmts_fed : (ss : List Stmt) → FitsStmts n ss → IsFed n 0 (stmts_code ss)
-  stmts_fed [] fits = tt
-  stmts_fed (s ∷ ss) fits = stmt_fed s (stmts_code ss) fits.0 (stmts_fed ss fits.1)
+convert_fed : (c : Conversion) → Takes (Code.conversion_code c)
+convert_fed Conv.Same h k fed = fed
+convert_fed Conv.ToLong h k fed = tt
+convert_fed Conv.ToDecimal h k fed = tt
+convert_fed Conv.ToId h k fed = tt
+convert_fed Conv.ToText h k fed = tt
+convert_fed Conv.ToRecord h k fed = tt
+
+op_fed : (left : Conversion) (op : TypedOp) (h : ℕ) (k : List Instr) → IsFed k (h + 1) → IsFed (Code.op_code left op ++ k) (h + 1 + 1)
+op_fed Conv.Same (Op.Arithmetic a Number.Integer) h k fed = one (I.Calc a) k (h + 1 + 1) (h + 1) (omega arith) (omega arith) fed
+op_fed Conv.Same (Op.Arithmetic a Number.Long) h k fed = tt
+op_fed Conv.Same (Op.Arithmetic a Number.Decimal) h k fed = tt
+op_fed Conv.Same Op.Join h k fed = tt
+op_fed Conv.Same Op.Equal h k fed = tt
+op_fed Conv.Same Op.Differs h k fed = tt
+op_fed Conv.Same (Op.Order o) h k fed = tt
+op_fed Conv.Same Op.And h k fed = tt
+op_fed Conv.Same Op.Or h k fed = tt
+op_fed Conv.ToLong op h k fed = tt
+op_fed Conv.ToDecimal op h k fed = tt
+op_fed Conv.ToId op h k fed = tt
+op_fed Conv.ToText op h k fed = tt
+op_fed Conv.ToRecord op h k fed = tt
+
+operand_fed : (left : Conversion) (op : TypedOp) (is : Codes) → Puts is → Takes (is ++ Code.op_code left op)
+operand_fed left op is p h k fed = subst (λ c. IsFed c (h + 1)) (sym (append_assoc is (Code.op_code left op) k)) (p (h + 1) (Code.op_code left op ++ k) (op_fed left op h k fed))
+
+count_fed : (b : Bool) (object : ℕ) (c : Cond) → Puts (Code.count_if b object c)
+count_fed true object c h k fed = one (I.Count (record { object = object; cond = c; asked = All (local_part c) })) k h (h + 1) (omega arith) (omega arith) fed
+count_fed false object c h k fed = tt
+
+-- ---- what holds of each part of an expression
+
+abbrev SuchBind : Type 0
+SuchBind = (b : TypedBind) × Unit {0}
+
+abbrev SuchExpr : Type 0
+SuchExpr = (e : TypedExpr) × Puts (Code.expr_code e)
+
+abbrev SuchNew : Type 0
+SuchNew = (n : TypedNew) × Puts (Code.new_code n)
+
+abbrev SuchPart : Type 0
+SuchPart = (p : TypedPart) × Unit {0}
+
+abbrev SuchItem : Type 0
+SuchItem = (i : TypedItem) × Unit {0}
+
+abbrev SuchOperand : Type 0
+SuchOperand = (o : TypedOperand) × Takes (Code.operand_code o)
+
+abbrev SuchPair : Type 0
+SuchPair = (p : TypedPair) × Puts (Code.pair_code p).1
+
+chain_fed : (os : List SuchOperand) → Takes (Code.joined (map Code.operand_code (map (λ o. o.0) os)))
+chain_fed [] h k fed = fed
+chain_fed (o ∷ os) h k fed =
+    subst (λ c. IsFed c (h + 1)) (sym (append_assoc (Code.operand_code o.0) (Code.joined (map Code.operand_code (map (λ x. x.0) os))) k))
+    (o.1 h (Code.joined (map Code.operand_code (map (λ x. x.0) os)) ++ k) (chain_fed os h k fed))
+
+exprs_fed : (es : List SuchExpr) (h : ℕ) (k : List Instr) → IsFed k (h + length (map Code.expr_code (map (λ e. e.0) es))) → IsFed (Code.joined (map Code.expr_code (map (λ e. e.0) es)) ++ k) h
+exprs_fed [] h k fed = let e : h + 0 ≡ h = omega arith in subst (IsFed k) e fed
+exprs_fed (x ∷ es) h k fed =
+    let e : h + suc (length (map Code.expr_code (map (λ e. e.0) es))) ≡ h + 1 + length (map Code.expr_code (map (λ e. e.0) es)) = omega arith in
+    subst (λ c. IsFed c h) (sym (append_assoc (Code.expr_code x.0) (Code.joined (map Code.expr_code (map (λ e. e.0) es))) k))
+    (x.1 h (Code.joined (map Code.expr_code (map (λ e. e.0) es)) ++ k) (exprs_fed es (h + 1) k (subst (IsFed k) e fed)))
+
+pairs_fed : (ps : List SuchPair) (h : ℕ) (k : List Instr) → IsFed k (h + length (Code.fields_of (map Code.pair_code (map (λ p. p.0) ps)))) → IsFed (Code.pairs_code (map Code.pair_code (map (λ p. p.0) ps)) ++ k) h
+pairs_fed [] h k fed = let e : h + 0 ≡ h = omega arith in subst (IsFed k) e fed
+pairs_fed (x ∷ ps) h k fed =
+    let e : h + suc (length (Code.fields_of (map Code.pair_code (map (λ p. p.0) ps)))) ≡ h + 1 + length (Code.fields_of (map Code.pair_code (map (λ p. p.0) ps))) = omega arith in
+    subst (λ c. IsFed c h) (sym (append_assoc (Code.pair_code x.0).1 (Code.pairs_code (map Code.pair_code (map (λ p. p.0) ps))) k))
+    (x.1 h (Code.pairs_code (map Code.pair_code (map (λ p. p.0) ps)) ++ k) (pairs_fed ps (h + 1) k (subst (IsFed k) e fed)))
+
+list_fed : (es : List SuchExpr) → Puts (Code.joined (map Code.expr_code (map (λ e. e.0) es)) ++ I.List (length (map Code.expr_code (map (λ e. e.0) es))) ∷ [])
+list_fed es h k fed =
+    let n = length (map Code.expr_code (map (λ e. e.0) es)) in
+    subst (λ c. IsFed c h) (sym (append_assoc (Code.joined (map Code.expr_code (map (λ e. e.0) es))) (I.List n ∷ []) k))
+    (exprs_fed es h (I.List n ∷ k) (one (I.List n) k (h + n) (h + 1) (omega arith) (omega arith) fed))
+
+record_fed : (object : ℕ) (ps : List SuchPair) → Puts (Code.pairs_code (map Code.pair_code (map (λ p. p.0) ps)) ++ I.Record object (Code.fields_of (map Code.pair_code (map (λ p. p.0) ps))) ∷ [])
+record_fed object ps h k fed =
+    let fs = Code.fields_of (map Code.pair_code (map (λ p. p.0) ps)) in
+    subst (λ c. IsFed c h) (sym (append_assoc (Code.pairs_code (map Code.pair_code (map (λ p. p.0) ps))) (I.Record object fs ∷ []) k))
+    (pairs_fed ps h (I.Record object fs ∷ k) (one (I.Record object fs) k (h + length fs) (h + 1) (omega arith) (omega arith) fed))
+
+abbrev bind_code : TypedBind → Codes
+bind_code = fold-TypedBind Codes Codes Codes Codes Codes Codes (ℕ × Codes) Code.bind_step Code.expr_step Code.new_step Code.part_step Code.item_step Code.operand_step Code.pair_step
+
+abbrev part_code : TypedPart → Codes
+part_code = fold-TypedPart Codes Codes Codes Codes Codes Codes (ℕ × Codes) Code.bind_step Code.expr_step Code.new_step Code.part_step Code.item_step Code.operand_step Code.pair_step
+
+abbrev item_code : TypedItem → Codes
+item_code = fold-TypedItem Codes Codes Codes Codes Codes Codes (ℕ × Codes) Code.bind_step Code.expr_step Code.new_step Code.part_step Code.item_step Code.operand_step Code.pair_step
+
+expr_is : (z : TypedExpr-F TypedBind TypedExpr TypedNew TypedPart TypedItem TypedOperand TypedPair) (is : Codes) → Code.expr_step (map-TypedExpr TypedBind TypedExpr TypedNew TypedPart TypedItem TypedOperand TypedPair Codes Codes Codes Codes Codes Codes (ℕ × Codes) bind_code Code.expr_code Code.new_code part_code item_code Code.operand_code Code.pair_code z) ≡ is → Puts is → Puts (Code.expr_code (roll-TypedExpr z))
+expr_is z is e h = puts_same (Code.expr_code (roll-TypedExpr z)) is (fold-roll-TypedExpr Codes Codes Codes Codes Codes Codes (ℕ × Codes) Code.bind_step Code.expr_step Code.new_step Code.part_step Code.item_step Code.operand_step Code.pair_step z ∙ e) h
+
+new_is : (z : TypedNew-F TypedBind TypedExpr TypedNew TypedPart TypedItem TypedOperand TypedPair) (is : Codes) → Code.new_step (map-TypedNew TypedBind TypedExpr TypedNew TypedPart TypedItem TypedOperand TypedPair Codes Codes Codes Codes Codes Codes (ℕ × Codes) bind_code Code.expr_code Code.new_code part_code item_code Code.operand_code Code.pair_code z) ≡ is → Puts is → Puts (Code.new_code (roll-TypedNew z))
+new_is z is e h = puts_same (Code.new_code (roll-TypedNew z)) is (fold-roll-TypedNew Codes Codes Codes Codes Codes Codes (ℕ × Codes) Code.bind_step Code.expr_step Code.new_step Code.part_step Code.item_step Code.operand_step Code.pair_step z ∙ e) h
+
+expr_layer : (y : TypedExpr-F SuchBind SuchExpr SuchNew SuchPart SuchItem SuchOperand SuchPair) → Puts (Code.expr_code (roll-TypedExpr (map-TypedExpr SuchBind SuchExpr SuchNew SuchPart SuchItem SuchOperand SuchPair TypedBind TypedExpr TypedNew TypedPart TypedItem TypedOperand TypedPair (λ e. e.0) (λ e. e.0) (λ e. e.0) (λ e. e.0) (λ e. e.0) (λ e. e.0) (λ e. e.0) y)))
+expr_layer (TypedExpr-F.Constant k) = expr_is (TypedExpr-F.Constant k) _ refl (constant_fed (is_cell k) k)
+expr_layer (TypedExpr-F.Local x) = expr_is (TypedExpr-F.Local x) _ refl (λ h k fed. one (I.Load x) k h (h + 1) (omega arith) (omega arith) fed)
+expr_layer (TypedExpr-F.Chain p os) = expr_is (TypedExpr-F.Chain p.0 (map (λ o. o.0) os)) _ refl (puts_then (Code.expr_code p.0) (Code.joined (map Code.operand_code (map (λ o. o.0) os))) p.1 (chain_fed os))
+expr_layer (TypedExpr-F.Convert c p) = expr_is (TypedExpr-F.Convert c p.0) _ refl (puts_then (Code.expr_code p.0) (Code.conversion_code c) p.1 (convert_fed c))
+expr_layer (TypedExpr-F.Minus Number.Integer p) =
+    expr_is (TypedExpr-F.Minus Number.Integer p.0) _ refl (puts_then (Code.expr_code p.0) (I.Negate ∷ []) p.1 (λ h k fed. one I.Negate k (h + 1) (h + 1) (omega arith) (omega arith) fed))
+expr_layer (TypedExpr-F.Minus Number.Long p) = expr_is (TypedExpr-F.Minus Number.Long p.0) Code.unbuilt refl puts_unbuilt
+expr_layer (TypedExpr-F.Minus Number.Decimal p) = expr_is (TypedExpr-F.Minus Number.Decimal p.0) Code.unbuilt refl puts_unbuilt
+expr_layer (TypedExpr-F.New n) = expr_is (TypedExpr-F.New n.0) (Code.new_code n.0) refl n.1
+expr_layer (TypedExpr-F.Debug p) = expr_is (TypedExpr-F.Debug p.0) _ refl (puts_then (Code.expr_code p.0) (I.Print ∷ []) p.1 (λ h k fed. one I.Print k (h + 1) (h + 1) (omega arith) (omega arith) fed))
+expr_layer (TypedExpr-F.Query q []) = expr_is (TypedExpr-F.Query q []) _ refl (count_fed _ _ _)
+expr_layer (TypedExpr-F.Query q (b ∷ bs)) = expr_is (TypedExpr-F.Query q (b.0 ∷ map (λ x. x.0) bs)) Code.unbuilt refl puts_unbuilt
+expr_layer (TypedExpr-F.Static c n) = expr_is (TypedExpr-F.Static c n) Code.unbuilt refl puts_unbuilt
+expr_layer TypedExpr-F.This = expr_is TypedExpr-F.This Code.unbuilt refl puts_unbuilt
+expr_layer (TypedExpr-F.TriggerVariable v) = expr_is (TypedExpr-F.TriggerVariable v) Code.unbuilt refl puts_unbuilt
+expr_layer (TypedExpr-F.Postfix p ps) = expr_is (TypedExpr-F.Postfix p.0 (map (λ x. x.0) ps)) Code.unbuilt refl puts_unbuilt
+expr_layer (TypedExpr-F.Not p) = expr_is (TypedExpr-F.Not p.0) Code.unbuilt refl puts_unbuilt
+expr_layer (TypedExpr-F.Conditional p q x) = expr_is (TypedExpr-F.Conditional p.0 q.0 x.0) Code.unbuilt refl puts_unbuilt
+expr_layer (TypedExpr-F.Assign p q) = expr_is (TypedExpr-F.Assign p.0 q.0) Code.unbuilt refl puts_unbuilt
+expr_layer (TypedExpr-F.AssignWith p a q) = expr_is (TypedExpr-F.AssignWith p.0 a q.0) Code.unbuilt refl puts_unbuilt
+expr_layer (TypedExpr-F.Step kind n p) = expr_is (TypedExpr-F.Step kind n p.0) Code.unbuilt refl puts_unbuilt
+expr_layer (TypedExpr-F.Cast n p) = expr_is (TypedExpr-F.Cast n p.0) Code.unbuilt refl puts_unbuilt
+expr_layer (TypedExpr-F.CastException x p) = expr_is (TypedExpr-F.CastException x p.0) Code.unbuilt refl puts_unbuilt
+expr_layer (TypedExpr-F.CallStatic c n ps) = expr_is (TypedExpr-F.CallStatic c n (map (λ x. x.0) ps)) Code.unbuilt refl puts_unbuilt
+expr_layer (TypedExpr-F.CallBuiltin b ps) = expr_is (TypedExpr-F.CallBuiltin b (map (λ x. x.0) ps)) Code.unbuilt refl puts_unbuilt
+
+new_layer : (y : TypedNew-F SuchBind SuchExpr SuchNew SuchPart SuchItem SuchOperand SuchPair) → Puts (Code.new_code (roll-TypedNew (map-TypedNew SuchBind SuchExpr SuchNew SuchPart SuchItem SuchOperand SuchPair TypedBind TypedExpr TypedNew TypedPart TypedItem TypedOperand TypedPair (λ e. e.0) (λ e. e.0) (λ e. e.0) (λ e. e.0) (λ e. e.0) (λ e. e.0) (λ e. e.0) y)))
+new_layer (TypedNew-F.Record object ps) = new_is (TypedNew-F.Record object (map (λ p. p.0) ps)) _ refl (record_fed object ps)
+new_layer (TypedNew-F.Collection Kind.List es) = new_is (TypedNew-F.Collection Kind.List (map (λ e. e.0) es)) _ refl (list_fed es)
+new_layer (TypedNew-F.Instance c k ps) = new_is (TypedNew-F.Instance c k (map (λ x. x.0) ps)) Code.unbuilt refl puts_unbuilt
+new_layer (TypedNew-F.Exception x ps) = new_is (TypedNew-F.Exception x (map (λ x. x.0) ps)) Code.unbuilt refl puts_unbuilt
+new_layer (TypedNew-F.Collection (Kind.Set k) ps) = new_is (TypedNew-F.Collection (Kind.Set k) (map (λ x. x.0) ps)) Code.unbuilt refl puts_unbuilt
+new_layer (TypedNew-F.Collection (Kind.Map k) ps) = new_is (TypedNew-F.Collection (Kind.Map k) (map (λ x. x.0) ps)) Code.unbuilt refl puts_unbuilt
+new_layer (TypedNew-F.Map k ps) = new_is (TypedNew-F.Map k (map (λ x. x.0) ps)) Code.unbuilt refl puts_unbuilt
+new_layer (TypedNew-F.Copy k p) = new_is (TypedNew-F.Copy k p.0) Code.unbuilt refl puts_unbuilt
+new_layer (TypedNew-F.ById p) = new_is (TypedNew-F.ById p.0) Code.unbuilt refl puts_unbuilt
+
+operand_layer : (y : TypedOperand-F SuchBind SuchExpr SuchNew SuchPart SuchItem SuchOperand SuchPair) → Takes (Code.operand_code (roll-TypedOperand (map-TypedOperand SuchBind SuchExpr SuchNew SuchPart SuchItem SuchOperand SuchPair TypedBind TypedExpr TypedNew TypedPart TypedItem TypedOperand TypedPair (λ e. e.0) (λ e. e.0) (λ e. e.0) (λ e. e.0) (λ e. e.0) (λ e. e.0) (λ e. e.0) y)))
+operand_layer y =
+    subst Takes (sym (fold-roll-TypedOperand Codes Codes Codes Codes Codes Codes (ℕ × Codes) Code.bind_step Code.expr_step Code.new_step Code.part_step Code.item_step Code.operand_step Code.pair_step (record { left = y.left; op = y.op; right = y.right.0 }))) (operand_fed y.left y.op (Code.expr_code y.right.0) y.right.1)
+
+pair_layer : (y : TypedPair-F SuchBind SuchExpr SuchNew SuchPart SuchItem SuchOperand SuchPair) → Puts (Code.pair_code (roll-TypedPair (map-TypedPair SuchBind SuchExpr SuchNew SuchPart SuchItem SuchOperand SuchPair TypedBind TypedExpr TypedNew TypedPart TypedItem TypedOperand TypedPair (λ e. e.0) (λ e. e.0) (λ e. e.0) (λ e. e.0) (λ e. e.0) (λ e. e.0) (λ e. e.0) y))).1
+pair_layer y =
+    subst Puts (sym (ap (λ p. p.1) (fold-roll-TypedPair Codes Codes Codes Codes Codes Codes (ℕ × Codes) Code.bind_step Code.expr_step Code.new_step Code.part_step Code.item_step Code.operand_step Code.pair_step (record { field = y.field; value = y.value.0 })))) y.value.1
+
+pub expr_fed : (e : TypedExpr) → Puts (Code.expr_code e)
+expr_fed =
+    ind-TypedExpr (λ b. Unit {0}) (λ e. Puts (Code.expr_code e)) (λ n. Puts (Code.new_code n)) (λ p. Unit {0}) (λ i. Unit {0}) (λ o. Takes (Code.operand_code o)) (λ p. Puts (Code.pair_code p).1)
+    (λ x y is. tt)
+    (λ x y is. subst (λ z. Puts (Code.expr_code (roll-TypedExpr z))) is (expr_layer y))
+    (λ x y is. subst (λ z. Puts (Code.new_code (roll-TypedNew z))) is (new_layer y))
+    (λ x y is. tt)
+    (λ x y is. tt)
+    (λ x y is. subst (λ z. Takes (Code.operand_code (roll-TypedOperand z))) is (operand_layer y))
+    (λ x y is. subst (λ z. Puts (Code.pair_code (roll-TypedPair z)).1) is (pair_layer y))
+
+-- ---- statements
+
+abbrev SuchStmt : Type 0
+SuchStmt = (s : TypedStmt) × Keeps (Code.stmt_code s)
+
+abbrev SuchCatch : Type 0
+SuchCatch = (c : TypedCatch) × Unit {0}
+
+abbrev catch_code : TypedCatch → Codes
+catch_code = fold-TypedCatch Codes Codes Code.stmt_step Code.catch_step
+
+stmt_is : (z : TypedStmt-F TypedStmt TypedCatch) (is : Codes) → Code.stmt_step (map-TypedStmt TypedStmt TypedCatch Codes Codes Code.stmt_code catch_code z) ≡ is → Keeps is → Keeps (Code.stmt_code (roll-TypedStmt z))
+stmt_is z is e h = subst Keeps (sym (fold-roll-TypedStmt Codes Codes Code.stmt_step Code.catch_step z ∙ e)) h
+
+keeps_unbuilt : Keeps Code.unbuilt
+keeps_unbuilt h k fed = tt
+
+stmts_fed : (ss : List SuchStmt) → Keeps (Code.joined (map Code.stmt_code (map (λ s. s.0) ss)))
+stmts_fed [] h k fed = fed
+stmts_fed (s ∷ ss) h k fed =
+    subst (λ c. IsFed c h) (sym (append_assoc (Code.stmt_code s.0) (Code.joined (map Code.stmt_code (map (λ x. x.0) ss))) k)) (s.1 h (Code.joined (map Code.stmt_code (map (λ x. x.0) ss)) ++ k) (stmts_fed ss h k fed))
+
+local_fed : (v : Option TypedExpr) → Puts (Code.local_code v)
+local_fed None h k fed = one (I.Push C.Null) k h (h + 1) (omega arith) (omega arith) fed
+local_fed (Some e) h k fed = expr_fed e h k fed
+
+locals_fed : (ls : List TypedLocal) → Keeps (Code.locals_code ls)
+locals_fed [] h k fed = fed
+locals_fed (l ∷ ls) h k fed =
+    subst (λ c. IsFed c h) (sym (append_assoc (Code.local_code l.value) (I.Store l.slot ∷ Code.locals_code ls) k))
+    (local_fed l.value h (I.Store l.slot ∷ (Code.locals_code ls ++ k)) (one (I.Store l.slot) (Code.locals_code ls ++ k) (h + 1) h (omega arith) (omega arith) (locals_fed ls h k fed)))
+
+-- a step, and what follows it
+step_fed : (is : Codes) → Keeps is → Keeps (I.Step ∷ is)
+step_fed is h n k fed = one I.Step (is ++ k) n n (omega arith) (omega arith) (h n k fed)
+
+-- a value, and an instruction that takes it
+value_fed : (e : TypedExpr) (i : Instr) → needs i ≡ 1 → puts i ≡ 0 → Keeps (Code.expr_code e ++ i ∷ [])
+value_fed e i a b h k fed =
+    subst (λ c. IsFed c h) (sym (append_assoc (Code.expr_code e) (i ∷ []) k)) (expr_fed e h (i ∷ k) (one i k (h + 1) h (omega arith) (omega arith) fed))
+
+stmt_layer : (y : TypedStmt-F SuchStmt SuchCatch) → Keeps (Code.stmt_code (roll-TypedStmt (map-TypedStmt SuchStmt SuchCatch TypedStmt TypedCatch (λ e. e.0) (λ e. e.0) y)))
+stmt_layer (TypedStmt-F.Block ss) = stmt_is (TypedStmt-F.Block (map (λ p. p.0) ss)) _ refl (stmts_fed ss)
+stmt_layer (TypedStmt-F.Declare ls) = stmt_is (TypedStmt-F.Declare ls) _ refl (step_fed (Code.locals_code ls) (locals_fed ls))
+stmt_layer (TypedStmt-F.Expr e) = stmt_is (TypedStmt-F.Expr e) _ refl (step_fed (Code.expr_code e ++ I.Pop ∷ []) (value_fed e I.Pop refl refl))
+stmt_layer (TypedStmt-F.Dml Dml.Insert saved e) = stmt_is (TypedStmt-F.Dml Dml.Insert saved e) _ refl (step_fed (Code.expr_code e ++ I.Insert saved ∷ []) (value_fed e (I.Insert saved) refl refl))
+stmt_layer (TypedStmt-F.Dml Dml.Update saved e) = stmt_is (TypedStmt-F.Dml Dml.Update saved e) Code.unbuilt refl keeps_unbuilt
+stmt_layer (TypedStmt-F.Dml Dml.Delete saved e) = stmt_is (TypedStmt-F.Dml Dml.Delete saved e) Code.unbuilt refl keeps_unbuilt
+stmt_layer (TypedStmt-F.Dml Dml.Upsert saved e) = stmt_is (TypedStmt-F.Dml Dml.Upsert saved e) Code.unbuilt refl keeps_unbuilt
+stmt_layer (TypedStmt-F.If e p None) = stmt_is (TypedStmt-F.If e p.0 None) Code.unbuilt refl keeps_unbuilt
+stmt_layer (TypedStmt-F.If e p (Some q)) = stmt_is (TypedStmt-F.If e p.0 (Some q.0)) Code.unbuilt refl keeps_unbuilt
+stmt_layer (TypedStmt-F.While e p) = stmt_is (TypedStmt-F.While e p.0) Code.unbuilt refl keeps_unbuilt
+stmt_layer (TypedStmt-F.Do p e) = stmt_is (TypedStmt-F.Do p.0 e) Code.unbuilt refl keeps_unbuilt
+stmt_layer (TypedStmt-F.For start c n p) = stmt_is (TypedStmt-F.For start c n p.0) Code.unbuilt refl keeps_unbuilt
+stmt_layer (TypedStmt-F.ForEach x c e p) = stmt_is (TypedStmt-F.ForEach x c e p.0) Code.unbuilt refl keeps_unbuilt
+stmt_layer (TypedStmt-F.Return e) = stmt_is (TypedStmt-F.Return e) Code.unbuilt refl keeps_unbuilt
+stmt_layer TypedStmt-F.Break = stmt_is TypedStmt-F.Break Code.unbuilt refl keeps_unbuilt
+stmt_layer TypedStmt-F.Continue = stmt_is TypedStmt-F.Continue Code.unbuilt refl keeps_unbuilt
+stmt_layer (TypedStmt-F.Throw e) = stmt_is (TypedStmt-F.Throw e) Code.unbuilt refl keeps_unbuilt
+stmt_layer (TypedStmt-F.Try ss cs None) = stmt_is (TypedStmt-F.Try (map (λ p. p.0) ss) (map (λ p. p.0) cs) None) Code.unbuilt refl keeps_unbuilt
+stmt_layer (TypedStmt-F.Try ss cs (Some fs)) = stmt_is (TypedStmt-F.Try (map (λ p. p.0) ss) (map (λ p. p.0) cs) (Some (map (λ p. p.0) fs))) Code.unbuilt refl keeps_unbuilt
+stmt_layer (TypedStmt-F.Construct c k es) = stmt_is (TypedStmt-F.Construct c k es) Code.unbuilt refl keeps_unbuilt
+stmt_layer (TypedStmt-F.ConstructException es) = stmt_is (TypedStmt-F.ConstructException es) Code.unbuilt refl keeps_unbuilt
+
+stmt_fed : (s : TypedStmt) → Keeps (Code.stmt_code s)
+stmt_fed = ind-TypedStmt (λ s. Keeps (Code.stmt_code s)) (λ c. Unit {0}) (λ x y is. subst (λ z. Keeps (Code.stmt_code (roll-TypedStmt z))) is (stmt_layer y)) (λ x y is. tt)
+
+pub block_fed : (ss : List TypedStmt) → IsFed (Code.block_code ss) 0
+block_fed [] = tt
+block_fed (s ∷ ss) = stmt_fed s 0 (Code.block_code ss) (block_fed ss)

@@ -1,4 +1,5 @@
-pub mod Equations
-pub mod Feeds
 pub mod Simulates
+pub mod Trees
+pub mod Feeds
 pub mod Correct
+pub mod Emits

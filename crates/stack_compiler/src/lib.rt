@@ -1,6 +1,10 @@
-//! From typed blocks to stack code.
+//! From typed blocks to stack code, and that the machine does what the block means (docs/language.md, "What code does").
 #![tactic(auto)]
 
+mod constants;
 mod emit;
+mod laws;
+mod stmts;
 
-pub use emit::compile;
+pub use laws::laws_of_code;
+pub use stmts::compile;

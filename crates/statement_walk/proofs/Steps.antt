@@ -1,5 +1,5 @@
 -- Steps of walks over statements.
-use Rattle.std.proofs.Common.{◌≡◌, ℕ, ◌+◌, ◌<◌, List, [], ◌∷◌, ◌++◌, length, drop, get_or, map, Option, None, Some, option_map, refl, sym, ap, ◌∙◌, subst}
+use Rattle.std.proofs.Common.{◌≡◌, ℕ, ◌+◌, ◌<◌, List, [], ◌∷◌, ◌++◌, length, take, drop, get_or, map, Result, Ok, Err, Option, None, Some, option_map, refl, sym, ap, ◌∙◌, subst}
 use Rattle.std.proofs.lemmas.List.{drop_more}
 use Rattle.apex_syntax.specs.declared.stmt.Body.{Body}
 use Rattle.apex_syntax.specs.declared.stmt.Catch.{Catch}
@@ -9,18 +9,18 @@ use Rattle.apex_syntax.specs.declared.stmt.Stmt.TheFolds.{fold-roll-Stmt}
 use Rattle.apex_syntax.specs.declared.stmt.Stmt.TheOpen.{Stmt-F}
 use Rattle.apex_syntax.specs.declared.stmt.Stmt.TheVariants.{Try, rolls-Try}
 use Rattle.apex_text.specs.declared.place.Span.{Span}
-use Rattle.statement_walk.specs.Scenes.{Locals, Scene, nested}
+use Rattle.statement_walk.specs.Scenes.{Locals, Scene, Threads, nested}
 use Rattle.statement_walk.specs.Simples.{declared, declared_from}
-use Rattle.statement_walk.specs.Statements.{StmtWalk, BodyWalk, CatchWalk, stmt_step, body_step, catch_step, statement, body, catching, catches_from, body_where, scoped, try_by}
+use Rattle.statement_walk.specs.Statements.{StmtWalk, BodyWalk, CatchWalk, stmt_step, body_step, catch_step, statement, body, catching, catches_from, body_where, ended, scoped, try_by}
 use Rattle.statement_walk.specs.declared.view.Inside.{Inside}
 use Rattle.static_types.specs.declared.kind.ValueType.{ValueType}
 use Rattle.type_names.specs.declared.fault.WalkFault.{WalkFault}
 use Rattle.type_names.specs.declared.fault.WalkFault.TheVariants as Fault
 use Rattle.type_names.specs.Walks.{Walk, Gives, Fails, onward}
-use Rattle.typed_statements.specs.declared.stmt.TypedCatch.{TypedCatch}
-use Rattle.typed_statements.specs.declared.stmt.TypedLocal.{TypedLocal}
-use Rattle.typed_statements.specs.declared.stmt.TypedStmt.{TypedStmt}
-use Rattle.typed_statements.specs.declared.stmt.TypedStmt.TheVariants as T
+use Rattle.typed_program.specs.declared.stmt.TypedCatch.{TypedCatch}
+use Rattle.typed_program.specs.declared.stmt.TypedLocal.{TypedLocal}
+use Rattle.typed_program.specs.declared.stmt.TypedStmt.{TypedStmt}
+use Rattle.typed_program.specs.declared.stmt.TypedStmt.TheVariants as T
 
 module _ {A B : Type 0} where
   goes_to : (w : Walk A) (go : A → Walk B) (a : A) (b : B) → w ≡ Gives a → go a ≡ Gives b → onward w go ≡ Gives b
@@ -63,3 +63,8 @@ module _ (s : Scene) where
       ∙ goes_to _ _ (made, after) _ (ap (λ i. scoped (body s b i) locals) (sym w) ∙ one)
       (goes_to _ _ (caught, behind) _ (ap (λ l. catches_from (map (catching s) l) inside [] after) (sym x) ∙ two)
       (goes_to _ _ (last, end) _ three refl))
+
+-- a scope is left, whether its statements have a fault or none
+pub left_by : {A : Type 0} (w : Walk (A × Locals)) (locals after end : Locals) (r : Result A WalkFault) → Threads w r after → end ≡ take (length locals) after → Threads (onward w (ended locals)) r end
+left_by w locals after end (Ok a) h e = ap (λ v. onward v (ended locals)) h ∙ ap (λ l. Gives (a, l)) (sym e)
+left_by w locals after end (Err fault) h e = halts w (ended locals) fault h

@@ -1,8 +1,8 @@
 -- Where statements stand (docs/language.md, "Statements in code").
 use Rattle.std.specs.Prelude.{◌≡◌, ℕ, ◌&&◌, Bool, true, false, List, Result, Ok, Err}
-use Rattle.class_members.specs.declared.member.ResultHead.{ResultHead}
+use Rattle.class_tables.specs.declared.member.ResultHead.{ResultHead}
 use Rattle.expression_walk.specs.Views.{Sight}
-use Rattle.method_calls.specs.MethodNamings.{namings}
+use Rattle.method_calls.specs.MethodNamings.{Namings, namings}
 use Rattle.name_meanings.specs.Settings.{Around, around}
 use Rattle.statement_walk.specs.declared.view.BodyView.{BodyView}
 use Rattle.statement_walk.specs.declared.view.Inside.{Inside}
@@ -16,7 +16,7 @@ Locals = List (List ℕ × ValueType)
 -- the body's surroundings, the names of all methods, and what it answers
 pub record Scene : Type 0 where
   pub around : Around
-  pub methods : List (List (List ℕ))
+  pub methods : Namings
   pub due : ResultHead
 
 abbrev pub scene : BodyView → Scene

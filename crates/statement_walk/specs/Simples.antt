@@ -1,6 +1,6 @@
 -- Statements without statements in them (docs/language.md, "Statements in code").
 use Rattle.std.specs.Prelude.{ℕ, cond, List, [], ◌∷◌, ◌++◌, length, map, Option, None, Some}
-use Rattle.apex_schema.specs.declared.reply.FaultWord.TheVariants.{MisplacedJump}
+use Rattle.fault_words.specs.declared.fault.FaultWord.TheVariants.{MisplacedJump}
 use Rattle.apex_syntax.specs.declared.expr.Expr.{Expr}
 use Rattle.apex_syntax.specs.declared.expr.TypeTree.{TypeTree}
 use Rattle.apex_syntax.specs.declared.stmt.Declarator.{Declarator}
@@ -8,22 +8,22 @@ use Rattle.apex_syntax.specs.declared.stmt.DmlOp.{DmlOp}
 use Rattle.apex_syntax.specs.declared.stmt.ForStart.{ForStart}
 use Rattle.apex_syntax.specs.declared.stmt.ForStart.TheVariants as F
 use Rattle.expression_walk.specs.Expressions.{expression}
-use Rattle.statement_forms.specs.Constructions.{own_constructor, parent_constructor, constructed}
-use Rattle.statement_forms.specs.Flows.{read, returned}
-use Rattle.local_names.specs.Locals.{Nothing as Done, fresh, local}
-use Rattle.statement_forms.specs.Saves.{saved}
+use Rattle.statement_walk.specs.Constructions.{own_constructor, parent_constructor, constructed}
+use Rattle.statement_walk.specs.Flows.{read, returned}
+use Rattle.local_scopes.specs.Locals.{Nothing as Done, fresh, local}
+use Rattle.statement_walk.specs.Saves.{saved}
 use Rattle.statement_walk.specs.Scenes.{Locals, Scene, sight_in}
 use Rattle.statement_walk.specs.declared.view.Inside.{Inside}
 use Rattle.static_types.specs.declared.kind.ValueType.{ValueType}
 use Rattle.static_types.specs.declared.kind.ValueType.TheVariants as V
 use Rattle.type_names.specs.TypeTrees.{type_of}
 use Rattle.type_names.specs.Walks.{Walk, Gives, wrong, onward, all}
-use Rattle.typed_statements.specs.declared.stmt.TypedLocal.{TypedLocal}
-use Rattle.typed_statements.specs.declared.stmt.TypedStart.{TypedStart}
-use Rattle.typed_statements.specs.declared.stmt.TypedStart.TheVariants as S
-use Rattle.typed_statements.specs.declared.stmt.TypedStmt.{TypedStmt}
-use Rattle.typed_statements.specs.declared.stmt.TypedStmt.TheVariants as T
-use Rattle.typed_trees.specs.declared.expr.TypedExpr.{TypedExpr}
+use Rattle.typed_program.specs.declared.stmt.TypedLocal.{TypedLocal}
+use Rattle.typed_program.specs.declared.stmt.TypedStart.{TypedStart}
+use Rattle.typed_program.specs.declared.stmt.TypedStart.TheVariants as S
+use Rattle.typed_program.specs.declared.stmt.TypedStmt.{TypedStmt}
+use Rattle.typed_program.specs.declared.stmt.TypedStmt.TheVariants as T
+use Rattle.typed_program.specs.declared.expr.TypedExpr.{TypedExpr}
 use Rattle.typed_values.specs.declared.typed.Typed.{Typed}
 use Rattle.typed_values.specs.Fits.{condition, fitted, stored}
 

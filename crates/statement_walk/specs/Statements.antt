@@ -10,19 +10,19 @@ use Rattle.apex_syntax.specs.declared.stmt.Stmt.{Stmt}
 use Rattle.apex_syntax.specs.declared.stmt.Stmt.TheOpen.{Stmt-F, Body-F, Catch-F}
 use Rattle.apex_syntax.specs.declared.stmt.Stmt.TheFolds.{fold-Stmt, fold-Body, fold-Catch}
 use Rattle.apex_syntax.specs.declared.word.Word.{Word}
-use Rattle.statement_forms.specs.Flows.{caught, each}
-use Rattle.local_names.specs.Locals.{fresh, local}
+use Rattle.statement_walk.specs.Flows.{caught, each}
+use Rattle.local_scopes.specs.Locals.{fresh, local}
 use Rattle.statement_walk.specs.Scenes.{Locals, Scene, nested, repeated, behind}
 use Rattle.statement_walk.specs.Simples.{value_in, tested, tested_where, read_in, read_where, declaration, started, answered, thrown, dml, called_own, called_parent, jump}
 use Rattle.statement_walk.specs.declared.view.Inside.{Inside}
 use Rattle.static_types.specs.declared.kind.ValueType.{ValueType}
 use Rattle.type_names.specs.TypeTrees.{type_of}
 use Rattle.type_names.specs.Walks.{Walk, Gives, onward}
-use Rattle.typed_statements.specs.declared.stmt.TypedCatch.{TypedCatch}
-use Rattle.typed_statements.specs.declared.stmt.TypedStmt.{TypedStmt}
-use Rattle.typed_statements.specs.declared.stmt.TypedStmt.TheVariants as T
-use Rattle.typed_trees.specs.declared.expr.Conversion.{Conversion}
-use Rattle.typed_trees.specs.declared.expr.TypedExpr.{TypedExpr}
+use Rattle.typed_program.specs.declared.stmt.TypedCatch.{TypedCatch}
+use Rattle.typed_program.specs.declared.stmt.TypedStmt.{TypedStmt}
+use Rattle.typed_program.specs.declared.stmt.TypedStmt.TheVariants as T
+use Rattle.typed_program.specs.declared.expr.Conversion.{Conversion}
+use Rattle.typed_program.specs.declared.expr.TypedExpr.{TypedExpr}
 
 -- ---- what the statements in a statement come to
 
@@ -78,6 +78,9 @@ body_where (Some b) inside locals = onward (scoped (b (nested inside)) locals) (
 abbrev pub still : {A : Type 0} → Locals → Walk A → Walk (A × Locals)
 still locals w = onward w (λ a. Gives (a, locals))
 
+abbrev pub block_by : BodyWalk → Inside → Amid TypedStmt
+block_by b inside locals = onward (scoped (b (nested inside)) locals) (λ r. Gives (T.Block r.0, r.1))
+
 module _ (s : Scene) where
   abbrev pub if_by : Expr → StmtWalk → Option StmtWalk → Inside → Amid TypedStmt
   if_by c then' else' inside locals =
@@ -127,7 +130,7 @@ module _ (s : Scene) where
       Gives (T.Try body.0 catches.0 last.0, last.1))))
 
   abbrev pub stmt_walk : Stmt-F StmtWalk BodyWalk CatchWalk → Inside → Amid TypedStmt
-  stmt_walk (Stmt-F.Block b) inside locals = onward (scoped (b (nested inside)) locals) (λ r. Gives (T.Block r.0, r.1))
+  stmt_walk (Stmt-F.Block b) inside locals = block_by b inside locals
   stmt_walk (Stmt-F.Empty sp) inside locals = Gives (T.Block [], locals)
   stmt_walk (Stmt-F.Declare sp t ds) inside locals = onward (declaration s t ds locals) (λ r. Gives (T.Declare r.0, r.1))
   stmt_walk (Stmt-F.Expr sp x) inside locals = still locals (onward (read_in s locals x) (λ tree. Gives (T.Expr tree)))

@@ -1,10 +1,16 @@
-//! The walk over statements: each with its typed tree, or the first fault.
+//! The walk over statements: each with its typed tree, or the first fault; and whether statements end surely.
 #![tactic(auto)]
 
+mod construct;
+mod endings;
+mod flow;
+mod made;
+mod save;
 mod simple;
 mod view;
 mod walk;
 
+pub use endings::ends_surely;
 pub use simple::initial;
 pub use view::{BodyView, Inside};
-pub use walk::{body_statements, statement, statements};
+pub use walk::{body_statements, statements};

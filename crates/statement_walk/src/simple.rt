@@ -1,23 +1,25 @@
 // Statements without statements in them.
 
 ghost use Rattle.std.specs.Prelude.{◌≡◌, [], option_map};
-ghost use Rattle.type_names.specs.Walks.{Comes, Tells};
+ghost use Rattle.type_names.specs.Walks.{Comes, Gives, Tells, onward};
+ghost use Rattle.typed_program.specs.declared.stmt.TypedStmt.TheVariants as typed;
 ghost use Rattle.statement_walk.specs.Scenes.{scene, Threads};
 ghost use Rattle.statement_walk.specs.Simples as spec;
 
+use crate::construct::{constructed, own_constructor, parent_constructor};
+use crate::flow::{read, returned};
+use crate::made::bare;
+use crate::save::saved;
 use crate::view::{BodyView, Inside};
 use apex_list::{Boxed, Items};
-use apex_schema::FaultWord;
 use apex_syntax::{Declarator, DmlOp, Expr, ForStart, TypeTree};
 use expression_walk::{View, arguments, expression};
-use local_names::{declare, fresh};
-use local_scopes::Scope;
-use statement_forms::{constructed, own_constructor, parent_constructor, read, returned, saved};
+use fault_words::FaultWord;
+use local_scopes::{Scope, declare, fresh};
 use static_types::ValueType;
 use std::alloc::Global;
 use type_names::{TreeFault, WalkFault, type_of};
-use typed_statements::{TypedLocal, TypedStart, TypedStmt};
-use typed_trees::TypedExpr;
+use typed_program::{TypedExpr, TypedLocal, TypedStart, TypedStmt};
 use typed_values::{Typed, condition, fitted, stored};
 
 /// An expression with its type.
@@ -43,12 +45,12 @@ pub fn tested(
     view: &BodyView,
     scope: &Scope,
     tree: &Expr,
-) -> Result<TypedExpr, WalkFault>
+) -> Result<Boxed<TypedExpr>, WalkFault>
     ensures { Comes (spec.tested (scene view.now) scope.now tree.now) result }
 {
     let setting = view.setting;
     let value = value_in(alloc, view, scope, tree)?;
-    Ok(condition(alloc, setting.lines, value)?.into_value())
+    condition(alloc, setting.lines, value)
 }
 
 /// The condition of a `for`, where it has one.
@@ -57,7 +59,7 @@ pub fn tested_where(
     view: &BodyView,
     scope: &Scope,
     tree: &Option<Boxed<Expr>>,
-) -> Result<Option<TypedExpr>, WalkFault>
+) -> Result<Option<Boxed<TypedExpr>>, WalkFault>
     ensures { Comes (spec.tested_where (scene view.now) scope.now tree.now) result }
 {
     match tree {
@@ -75,7 +77,7 @@ pub fn read_in(
     view: &BodyView,
     scope: &Scope,
     tree: &Expr,
-) -> Result<TypedExpr, WalkFault>
+) -> Result<Boxed<TypedExpr>, WalkFault>
     ensures { Comes (spec.read_in (scene view.now) scope.now tree.now) result }
 {
     let value = value_in(alloc, view, scope, tree)?;
@@ -88,7 +90,7 @@ pub fn read_where(
     view: &BodyView,
     scope: &Scope,
     tree: &Option<Boxed<Expr>>,
-) -> Result<Option<TypedExpr>, WalkFault>
+) -> Result<Option<Boxed<TypedExpr>>, WalkFault>
     ensures { Comes (spec.read_where (scene view.now) scope.now tree.now) result }
 {
     match tree {
@@ -107,7 +109,7 @@ pub fn initial(
     scope: &Scope,
     kind: &ValueType,
     tree: &Option<Boxed<Expr>>,
-) -> Result<Option<TypedExpr>, WalkFault>
+) -> Result<Option<Boxed<TypedExpr>>, WalkFault>
     ensures { Comes (spec.initial (scene view.now) scope.now kind.now tree.now) result }
 {
     let setting = view.setting;
@@ -115,7 +117,7 @@ pub fn initial(
         Some(tree) => {
             let value = value_in(alloc, view, scope, tree.get())?;
             let tree = stored(alloc, setting.lines, value, kind)?;
-            Ok(Some(tree.into_value()))
+            Ok(Some(tree))
         }
         None => Ok(None),
     }
@@ -214,13 +216,13 @@ pub fn answered(
     scope: &Scope,
     at: usize,
     tree: &Option<Boxed<Expr>>,
-) -> Result<TypedStmt, WalkFault>
+) -> Result<Boxed<TypedStmt>, WalkFault>
     ensures { Comes (spec.answered (scene view.now) scope.now at tree.now) result }
 {
     let setting = view.setting;
     let value = value_where(alloc, view, scope, tree)?;
     let tree = returned(alloc, setting.lines, view.due, at, value)?;
-    Ok(TypedStmt::Return(tree))
+    Ok(Boxed::new(alloc, TypedStmt::Return(bare(tree)))?)
 }
 
 /// `throw`
@@ -229,13 +231,13 @@ pub fn thrown(
     view: &BodyView,
     scope: &Scope,
     tree: &Expr,
-) -> Result<TypedStmt, WalkFault>
+) -> Result<Boxed<TypedStmt>, WalkFault>
     ensures { Comes (spec.thrown (scene view.now) scope.now tree.now) result }
 {
     let setting = view.setting;
     let value = value_in(alloc, view, scope, tree)?;
     let tree = fitted(alloc, setting.lines, value, &ValueType::AnyException)?;
-    Ok(TypedStmt::Throw(tree.into_value()))
+    Ok(Boxed::new(alloc, TypedStmt::Throw(tree.into_value()))?)
 }
 
 /// `insert` and its like.
@@ -245,12 +247,12 @@ pub fn dml(
     scope: &Scope,
     op: DmlOp,
     tree: &Expr,
-) -> Result<TypedStmt, WalkFault>
+) -> Result<Boxed<TypedStmt>, WalkFault>
     ensures { Comes (spec.dml (scene view.now) scope.now op tree.now) result }
 {
     let value = value_in(alloc, view, scope, tree)?;
     let (what, tree) = saved(value)?;
-    Ok(TypedStmt::Dml(op, what, tree))
+    Ok(Boxed::new(alloc, TypedStmt::Dml(op, what, tree.into_value()))?)
 }
 
 fn arguments_in(
@@ -288,7 +290,7 @@ pub fn called_own(
     inside: Inside,
     at: usize,
     trees: &[Expr],
-) -> Result<TypedStmt, WalkFault>
+) -> Result<Boxed<TypedStmt>, WalkFault>
     ensures { Comes (spec.called_own (scene view.now) scope.now inside at trees.now) result }
 {
     placed(inside, at)?;
@@ -305,7 +307,7 @@ pub fn called_parent(
     inside: Inside,
     at: usize,
     trees: &[Expr],
-) -> Result<TypedStmt, WalkFault>
+) -> Result<Boxed<TypedStmt>, WalkFault>
     ensures { Comes (spec.called_parent (scene view.now) scope.now inside at trees.now) result }
 {
     placed(inside, at)?;
@@ -314,8 +316,8 @@ pub fn called_parent(
     constructed(alloc, view.setting, how, at, args)
 }
 
-/// Whether `break` or `continue`, which stands at this byte, is in a loop.
-pub fn in_loop(inside: Inside, at: usize) -> Result<(), TreeFault>
+// `break` and `continue` stand in loops.
+fn in_loop(inside: Inside, at: usize) -> Result<(), TreeFault>
     ensures { Tells (spec.in_loop inside at) result }
 {
     if inside.in_loop {
@@ -323,4 +325,54 @@ pub fn in_loop(inside: Inside, at: usize) -> Result<(), TreeFault>
     } else {
         Err(TreeFault::new(FaultWord::MisplacedJump, at))
     }
+}
+
+/// `break`, which stands at this byte.
+pub fn breaks(alloc: Global, inside: Inside, at: usize) -> Result<Boxed<TypedStmt>, WalkFault>
+    ensures { Comes (spec.jump inside at typed.Break) result }
+{
+    in_loop(inside, at)?;
+    Ok(Boxed::new(alloc, TypedStmt::Break)?)
+}
+
+/// `continue`, which stands at this byte.
+pub fn continues(alloc: Global, inside: Inside, at: usize) -> Result<Boxed<TypedStmt>, WalkFault>
+    ensures { Comes (spec.jump inside at typed.Continue) result }
+{
+    in_loop(inside, at)?;
+    Ok(Boxed::new(alloc, TypedStmt::Continue)?)
+}
+
+/// A declaration, as a statement.
+pub fn declares(
+    alloc: Global,
+    view: &BodyView,
+    kind: &TypeTree,
+    trees: &[Declarator],
+    scope: &mut Scope,
+) -> Result<Boxed<TypedStmt>, WalkFault>
+    ensures { Threads (onward (spec.declaration (scene view.now) kind.now trees.now scope.old) (λ r. Gives (typed.Declare r.0, r.1))) result scope.new }
+{
+    let locals = declaration(alloc, view, kind, trees, scope)?;
+    Ok(Boxed::new(alloc, TypedStmt::Declare(locals))?)
+}
+
+/// An expression, as a statement.
+pub fn reads(
+    alloc: Global,
+    view: &BodyView,
+    scope: &Scope,
+    tree: &Expr,
+) -> Result<Boxed<TypedStmt>, WalkFault>
+    ensures { Comes (onward (spec.read_in (scene view.now) scope.now tree.now) (λ x. Gives (typed.Expr x))) result }
+{
+    let tree = read_in(alloc, view, scope, tree)?;
+    Ok(Boxed::new(alloc, TypedStmt::Expr(tree.into_value()))?)
+}
+
+/// `;`
+pub fn nothing(alloc: Global) -> Result<Boxed<TypedStmt>, WalkFault>
+    ensures { Comes (Gives (typed.Block [])) result }
+{
+    Ok(Boxed::new(alloc, TypedStmt::Block(Items::new(alloc)))?)
 }

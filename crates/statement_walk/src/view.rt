@@ -1,6 +1,6 @@
 // Where statements stand.
 
-use class_members::ResultHead;
+use class_tables::ResultHead;
 use method_calls::MethodNames;
 use name_meanings::Setting;
 

@@ -1,23 +1,25 @@
 // The walk.
 
-ghost use Rattle.std.specs.Prelude.{◌≡◌, [], map, option_map};
+ghost use Rattle.std.specs.Prelude.{◌≡◌, None, [], map, option_map};
+ghost use Rattle.local_scopes.specs.Scopes.{slot_of};
 ghost use Rattle.statement_walk.specs.Scenes as scenes;
 ghost use Rattle.statement_walk.specs.Scenes.{scene, Threads};
 ghost use Rattle.statement_walk.specs.Statements as spec;
 
+use crate::flow::{caught, each};
+use crate::made::bare;
 use crate::simple::{
-    answered, called_own, called_parent, declaration, dml, in_loop, read_in, read_where, started,
-    tested, tested_where, thrown, value_in,
+    answered, breaks, called_own, called_parent, continues, declares, dml, nothing, read_where,
+    reads, started, tested, tested_where, thrown, value_in,
 };
 use crate::view::{BodyView, Inside};
 use apex_list::{Boxed, Items};
-use apex_syntax::{Body, Catch, Stmt};
-use local_names::{declare, fresh};
-use local_scopes::Scope;
-use statement_forms::{caught, each};
+use apex_syntax::{Body, Catch, Expr, ForStart, Stmt, TypeTree, Word};
+use local_scopes::{Scope, declare, fresh};
+use static_types::ValueType;
 use std::alloc::Global;
 use type_names::{WalkFault, type_of};
-use typed_statements::{TypedCatch, TypedStmt};
+use typed_program::{Conversion, TypedCatch, TypedExpr, TypedStmt};
 
 const REPEATED: Inside = Inside {
     in_loop: true,
@@ -56,7 +58,7 @@ fn stmts(
     let mut done = Items::new(alloc);
     for tree in trees {
         let made = stmt(alloc, view, tree, inside, scope)?;
-        done.push(made)?;
+        done.push(made.into_value())?;
         inside = Inside {
             in_loop: inside.in_loop,
             first: inside.first && is_empty(tree, view),
@@ -89,9 +91,9 @@ fn scoped_body(
     ensures { Threads (spec.scoped (spec.body (scene view.now) tree.now inside) scope.old) result scope.new }
 {
     let len = scope.len();
-    let made = body(alloc, view, tree, inside, scope)?;
+    let made = body(alloc, view, tree, inside, scope);
     scope.leave(len);
-    Ok(made)
+    made
 }
 
 #[cycle(stmt)]
@@ -105,9 +107,9 @@ fn scoped(
     ensures { Threads (spec.scoped ((spec.statement (scene view.now) tree.now).walk inside) scope.old) result scope.new }
 {
     let len = scope.len();
-    let made = stmt(alloc, view, tree, inside, scope)?;
+    let made = stmt(alloc, view, tree, inside, scope);
     scope.leave(len);
-    Ok(Boxed::new(alloc, made)?)
+    made
 }
 
 #[cycle(stmt)]
@@ -190,80 +192,151 @@ fn catch_of(
 }
 
 #[cycle(stmt)]
+fn block(
+    alloc: Global,
+    view: &BodyView,
+    tree: &Body,
+    inside: Inside,
+    scope: &mut Scope,
+) -> Result<Boxed<TypedStmt>, WalkFault>
+    ensures { Threads (spec.block_by (spec.body (scene view.now) tree.now) inside scope.old) result scope.new }
+{
+    let stmts = scoped_body(alloc, view, tree, nested(inside), scope)?;
+    Ok(Boxed::new(alloc, TypedStmt::Block(stmts))?)
+}
+
+#[cycle(stmt)]
+fn while_stmt(
+    alloc: Global,
+    view: &BodyView,
+    again: &Stmt,
+    test: &Expr,
+    scope: &mut Scope,
+) -> Result<Boxed<TypedStmt>, WalkFault>
+    ensures { Threads (spec.while_by (scene view.now) test.now (spec.statement (scene view.now) again.now) scope.old) result scope.new }
+{
+    let test = tested(alloc, view, scope, test)?;
+    let again = scoped(alloc, view, again, REPEATED, scope)?;
+    Ok(Boxed::new(alloc, TypedStmt::While(test.into_value(), again))?)
+}
+
+#[cycle(stmt)]
+fn do_stmt(
+    alloc: Global,
+    view: &BodyView,
+    again: &Stmt,
+    test: &Expr,
+    scope: &mut Scope,
+) -> Result<Boxed<TypedStmt>, WalkFault>
+    ensures { Threads (spec.do_by (scene view.now) (spec.statement (scene view.now) again.now) test.now scope.old) result scope.new }
+{
+    let again = scoped(alloc, view, again, REPEATED, scope)?;
+    let test = tested(alloc, view, scope, test)?;
+    Ok(Boxed::new(alloc, TypedStmt::Do(again, test.into_value()))?)
+}
+
+#[cycle(stmt)]
+fn for_stmt(
+    alloc: Global,
+    view: &BodyView,
+    again: &Stmt,
+    start: &ForStart,
+    test: &Option<Boxed<Expr>>,
+    step: &Option<Boxed<Expr>>,
+    scope: &mut Scope,
+) -> Result<Boxed<TypedStmt>, WalkFault>
+    ensures { Threads (spec.for_by (scene view.now) start.now test.now step.now (spec.statement (scene view.now) again.now) scope.old) result scope.new }
+{
+    let len = scope.len();
+    let start = started(alloc, view, start, scope)?;
+    let test = tested_where(alloc, view, scope, test)?;
+    let step = read_where(alloc, view, scope, step)?;
+    let again = scoped(alloc, view, again, REPEATED, scope)?;
+    scope.leave(len);
+    Ok(Boxed::new(alloc, TypedStmt::For(start, bare(test), bare(step), again))?)
+}
+
+#[cycle(stmt)]
+fn each_item(
+    alloc: Global,
+    view: &BodyView,
+    again: &Stmt,
+    kind: ValueType,
+    name: &Word,
+    how: Conversion,
+    list: Boxed<TypedExpr>,
+    scope: &mut Scope,
+) -> Result<Boxed<TypedStmt>, WalkFault>
+    requires { slot_of scope.old name.now.name ≡ None }
+    ensures { Threads (spec.each_of (scene view.now) name.now kind (spec.statement (scene view.now) again.now) scope.old (how, list)) result scope.new }
+{
+    let slot = declare(scope, name, kind)?;
+    let again = stmt(alloc, view, again, REPEATED, scope)?;
+    scope.leave(slot);
+    Ok(Boxed::new(
+        alloc,
+        TypedStmt::ForEach(slot, how, list.into_value(), again),
+    )?)
+}
+
+#[cycle(stmt)]
+fn each_stmt(
+    alloc: Global,
+    view: &BodyView,
+    again: &Stmt,
+    kind: &TypeTree,
+    name: &Word,
+    list: &Expr,
+    scope: &mut Scope,
+) -> Result<Boxed<TypedStmt>, WalkFault>
+    ensures { Threads (spec.each_by (scene view.now) kind.now name.now list.now (spec.statement (scene view.now) again.now) scope.old) result scope.new }
+{
+    let setting = view.setting;
+    let kind = type_of(alloc, &setting.names, kind)?;
+    fresh(scope, name)?;
+    let list = value_in(alloc, view, scope, list)?;
+    let (how, list) = each(setting.lines, &kind, list)?;
+    each_item(alloc, view, again, kind, name, how, list, scope)
+}
+
+#[cycle(stmt)]
 fn stmt(
     alloc: Global,
     view: &BodyView,
     tree: &Stmt,
     inside: Inside,
     scope: &mut Scope,
-) -> Result<TypedStmt, WalkFault>
+) -> Result<Boxed<TypedStmt>, WalkFault>
     ensures { Threads ((spec.statement (scene view.now) tree.now).walk inside scope.old) result scope.new }
 {
-    let setting = view.setting;
     match tree {
-        Stmt::Block(tree) => {
-            let made = scoped_body(alloc, view, tree, nested(inside), scope)?;
-            Ok(TypedStmt::Block(made))
-        }
-        Stmt::Empty(_) => Ok(TypedStmt::Block(Items::new(alloc))),
-        Stmt::Declare(_, kind, trees) => {
-            let locals = declaration(alloc, view, kind, trees.as_slice(), scope)?;
-            Ok(TypedStmt::Declare(locals))
-        }
-        Stmt::Expr(_, tree) => {
-            let tree = read_in(alloc, view, scope, tree.get())?;
-            Ok(TypedStmt::Expr(tree))
-        }
+        Stmt::Block(tree) => block(alloc, view, tree, inside, scope),
+        Stmt::Empty(_) => nothing(alloc),
+        Stmt::Declare(_, kind, trees) => declares(alloc, view, kind, trees.as_slice(), scope),
+        Stmt::Expr(_, tree) => reads(alloc, view, scope, tree.get()),
         Stmt::If(_, test, yes, no) => {
             let test = tested(alloc, view, scope, test.get())?;
             let yes = scoped(alloc, view, yes.get(), nested(inside), scope)?;
             let no = stmt_where(alloc, view, no, inside, scope)?;
-            Ok(TypedStmt::If(test, yes, no))
+            Ok(Boxed::new(alloc, TypedStmt::If(test.into_value(), yes, no))?)
         }
-        Stmt::While(_, test, again) => {
-            let test = tested(alloc, view, scope, test.get())?;
-            let again = scoped(alloc, view, again.get(), REPEATED, scope)?;
-            Ok(TypedStmt::While(test, again))
-        }
-        Stmt::Do(_, again, test) => {
-            let again = scoped(alloc, view, again.get(), REPEATED, scope)?;
-            let test = tested(alloc, view, scope, test.get())?;
-            Ok(TypedStmt::Do(again, test))
-        }
+        Stmt::While(_, test, again) => while_stmt(alloc, view, again.get(), test.get(), scope),
+        Stmt::Do(_, again, test) => do_stmt(alloc, view, again.get(), test.get(), scope),
         Stmt::For(_, start, test, step, again) => {
-            let len = scope.len();
-            let start = started(alloc, view, start, scope)?;
-            let test = tested_where(alloc, view, scope, test)?;
-            let step = read_where(alloc, view, scope, step)?;
-            let again = scoped(alloc, view, again.get(), REPEATED, scope)?;
-            scope.leave(len);
-            Ok(TypedStmt::For(start, test, step, again))
+            for_stmt(alloc, view, again.get(), start, test, step, scope)
         }
         Stmt::ForEach(_, kind, name, list, again) => {
-            let kind = type_of(alloc, &setting.names, kind)?;
-            fresh(scope, name)?;
-            let list = value_in(alloc, view, scope, list.get())?;
-            let (how, list) = each(setting.lines, &kind, list)?;
-            let slot = declare(scope, name, kind)?;
-            let again = stmt(alloc, view, again.get(), REPEATED, scope)?;
-            scope.leave(slot);
-            Ok(TypedStmt::ForEach(slot, how, list, Boxed::new(alloc, again)?))
+            each_stmt(alloc, view, again.get(), kind, name, list.get(), scope)
         }
         Stmt::Return(span, tree) => answered(alloc, view, scope, span.from, tree),
-        Stmt::Break(span) => {
-            in_loop(inside, span.from)?;
-            Ok(TypedStmt::Break)
-        }
-        Stmt::Continue(span) => {
-            in_loop(inside, span.from)?;
-            Ok(TypedStmt::Continue)
-        }
+        Stmt::Break(span) => breaks(alloc, inside, span.from),
+        Stmt::Continue(span) => continues(alloc, inside, span.from),
         Stmt::Throw(_, tree) => thrown(alloc, view, scope, tree.get()),
         Stmt::Try(_, tree, trees, last) => {
-            let made = scoped_body(alloc, view, tree, nested(inside), scope)?;
+            let stmts = scoped_body(alloc, view, tree, nested(inside), scope)?;
             let caught = catches(alloc, view, trees.as_slice(), inside, scope)?;
             let last = body_where(alloc, view, last, inside, scope)?;
-            Ok(TypedStmt::Try(made, caught, last))
+            Ok(Boxed::new(alloc, TypedStmt::Try(stmts, caught, last))?)
         }
         Stmt::Dml(_, op, tree) => dml(alloc, view, scope, *op, tree.get()),
         Stmt::This(span, args) => {
@@ -275,21 +348,8 @@ fn stmt(
     }
 }
 
-/// A statement, with its typed tree, or its first fault. The locals that it declares are in scope behind it; a fault
-/// leaves some of those that were.
-pub fn statement(
-    alloc: Global,
-    view: &BodyView,
-    tree: &Stmt,
-    inside: Inside,
-    scope: &mut Scope,
-) -> Result<TypedStmt, WalkFault>
-    ensures { Threads ((spec.statement (scene view.now) tree.now).walk inside scope.old) result scope.new }
-{
-    stmt(alloc, view, tree, inside, scope)
-}
-
-/// The statements of a body, as `statement`, from first to last.
+/// Statements from first to last, with their typed trees, or the first fault. The locals that they declare are in scope
+/// behind them; a fault leaves some of those that were.
 pub fn statements(
     alloc: Global,
     view: &BodyView,

@@ -35,7 +35,7 @@ pub enum PlatformType {
 }
 
 /// A type that a variable may have.
-#[derive(Debug, Drop)]
+#[derive(Drop)]
 pub enum ValueType {
     Primitive(Primitive),
     List(Boxed<ValueType>),

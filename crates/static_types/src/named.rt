@@ -8,7 +8,7 @@ use apex_text::Name;
 use builtin_table::ExceptionClass;
 
 /// What a name that stands alone, or behind `System.`, says of a type.
-#[derive(Clone, Copy, Debug, PartialEq, Eq, Hash, Drop)]
+#[derive(Clone, Copy, PartialEq, Eq, Drop)]
 pub enum TypeName {
     Primitive(Primitive),
     /// `Double`, which isn't had.
@@ -29,136 +29,56 @@ pub struct NameRow<A> {
     pub says: A,
 }
 
+// Rows, each on a line: a name, and what it says.
+macro_rules! name_rows {
+    ($($name:expr => $says:expr),+ $(,)?) => {
+        [$(NameRow { name: $name, says: $says }),+]
+    };
+}
+
 // The names that stand alone, or behind `System.`.
 fn type_rows() -> [NameRow<TypeName>; 25]
     ensures { map spec.shown result ≡ spec.type_names }
 {
-    [
-        NameRow {
-            name: "boolean",
-            says: TypeName::Primitive(Primitive::Boolean),
-        },
-        NameRow {
-            name: "integer",
-            says: TypeName::Primitive(Primitive::Integer),
-        },
-        NameRow {
-            name: "long",
-            says: TypeName::Primitive(Primitive::Long),
-        },
-        NameRow {
-            name: "decimal",
-            says: TypeName::Primitive(Primitive::Decimal),
-        },
-        NameRow {
-            name: "string",
-            says: TypeName::Primitive(Primitive::String),
-        },
-        NameRow {
-            name: "id",
-            says: TypeName::Primitive(Primitive::Id),
-        },
-        NameRow {
-            name: "date",
-            says: TypeName::Primitive(Primitive::Date),
-        },
-        NameRow {
-            name: "datetime",
-            says: TypeName::Primitive(Primitive::Datetime),
-        },
-        NameRow {
-            name: "double",
-            says: TypeName::Double,
-        },
-        NameRow {
-            name: "list",
-            says: TypeName::List,
-        },
-        NameRow {
-            name: "set",
-            says: TypeName::Set,
-        },
-        NameRow {
-            name: "map",
-            says: TypeName::Map,
-        },
-        NameRow {
-            name: "savepoint",
-            says: TypeName::Savepoint,
-        },
-        NameRow {
-            name: "exception",
-            says: TypeName::AnyException,
-        },
-        NameRow {
-            name: "mathexception",
-            says: TypeName::Exception(ExceptionClass::Math),
-        },
-        NameRow {
-            name: "nullpointerexception",
-            says: TypeName::Exception(ExceptionClass::NullPointer),
-        },
-        NameRow {
-            name: "listexception",
-            says: TypeName::Exception(ExceptionClass::List),
-        },
-        NameRow {
-            name: "queryexception",
-            says: TypeName::Exception(ExceptionClass::Query),
-        },
-        NameRow {
-            name: "sobjectexception",
-            says: TypeName::Exception(ExceptionClass::SObject),
-        },
-        NameRow {
-            name: "finalexception",
-            says: TypeName::Exception(ExceptionClass::Final),
-        },
-        NameRow {
-            name: "stringexception",
-            says: TypeName::Exception(ExceptionClass::String),
-        },
-        NameRow {
-            name: "typeexception",
-            says: TypeName::Exception(ExceptionClass::Type),
-        },
-        NameRow {
-            name: "dmlexception",
-            says: TypeName::Exception(ExceptionClass::Dml),
-        },
-        NameRow {
-            name: "limitexception",
-            says: TypeName::Exception(ExceptionClass::Limit),
-        },
-        NameRow {
-            name: "assertexception",
-            says: TypeName::Exception(ExceptionClass::Assert),
-        },
-    ]
+    name_rows! {
+        "boolean" => TypeName::Primitive(Primitive::Boolean),
+        "integer" => TypeName::Primitive(Primitive::Integer),
+        "long" => TypeName::Primitive(Primitive::Long),
+        "decimal" => TypeName::Primitive(Primitive::Decimal),
+        "string" => TypeName::Primitive(Primitive::String),
+        "id" => TypeName::Primitive(Primitive::Id),
+        "date" => TypeName::Primitive(Primitive::Date),
+        "datetime" => TypeName::Primitive(Primitive::Datetime),
+        "double" => TypeName::Double,
+        "list" => TypeName::List,
+        "set" => TypeName::Set,
+        "map" => TypeName::Map,
+        "savepoint" => TypeName::Savepoint,
+        "exception" => TypeName::AnyException,
+        "mathexception" => TypeName::Exception(ExceptionClass::Math),
+        "nullpointerexception" => TypeName::Exception(ExceptionClass::NullPointer),
+        "listexception" => TypeName::Exception(ExceptionClass::List),
+        "queryexception" => TypeName::Exception(ExceptionClass::Query),
+        "sobjectexception" => TypeName::Exception(ExceptionClass::SObject),
+        "finalexception" => TypeName::Exception(ExceptionClass::Final),
+        "stringexception" => TypeName::Exception(ExceptionClass::String),
+        "typeexception" => TypeName::Exception(ExceptionClass::Type),
+        "dmlexception" => TypeName::Exception(ExceptionClass::Dml),
+        "limitexception" => TypeName::Exception(ExceptionClass::Limit),
+        "assertexception" => TypeName::Exception(ExceptionClass::Assert),
+    }
 }
 
 // The names that stand behind `Database.`.
 fn platform_rows() -> [NameRow<PlatformType>; 4]
     ensures { map spec.shown result ≡ spec.platform_names }
 {
-    [
-        NameRow {
-            name: "saveresult",
-            says: PlatformType::SaveResult,
-        },
-        NameRow {
-            name: "deleteresult",
-            says: PlatformType::DeleteResult,
-        },
-        NameRow {
-            name: "upsertresult",
-            says: PlatformType::UpsertResult,
-        },
-        NameRow {
-            name: "error",
-            says: PlatformType::Error,
-        },
-    ]
+    name_rows! {
+        "saveresult" => PlatformType::SaveResult,
+        "deleteresult" => PlatformType::DeleteResult,
+        "upsertresult" => PlatformType::UpsertResult,
+        "error" => PlatformType::Error,
+    }
 }
 
 // What the row with this name says.

@@ -1,11 +1,11 @@
 -- How the end of a request is met.
 use Rattle.std.proofs.Common.{◌≡◌, sym, ap, subst, ◌∙◌, ℕ, Bool, List, Option, None}
-use Rattle.apex_schema.specs.declared.reply.Reply.{Reply}
-use Rattle.apex_schema.specs.declared.row.Row.{Row}
-use Rattle.apex_schema.specs.declared.row.Writes.{Writes}
-use Rattle.apex_schema.specs.Stores.{taken}
+use Rattle.apex_requests.specs.declared.reply.Reply.{Reply}
+use Rattle.apex_rows.specs.declared.row.Row.{Row}
+use Rattle.apex_rows.specs.declared.row.Writes.{Writes}
+use Rattle.row_meaning.specs.Stores.{taken}
 use Rattle.record_store.specs.Heaps.{rows_in}
-use Rattle.session_trails.specs.States.{Told, IsSession, Ends as Closes}
+use Rattle.tenant_trails.specs.States.{Told, IsSession, Ends as Closes}
 use Rattle.tenant_trails.specs.Legal.{Session, some_writes}
 use Rattle.tenant_core.specs.declared.log.Log.{Log}
 use Rattle.tenant_core.specs.Logs.{Tells}

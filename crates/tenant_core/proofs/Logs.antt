@@ -1,8 +1,8 @@
 -- Logs, question by question.
 use Rattle.std.proofs.Common.{arith, ◌≡◌, sym, ap, subst, ◌∙◌, ℕ, zero, suc, ◌+◌, ◌<◌, ◌≤◌, List, [], ◌∷◌, length, take, get_or}
-use Rattle.apex_schema.specs.declared.query.Answer.{Answer}
-use Rattle.apex_schema.specs.declared.query.Question.{Question}
-use Rattle.apex_schema.specs.declared.row.Row.{Row}
+use Rattle.apex_rows.specs.declared.query.Answer.{Answer}
+use Rattle.apex_rows.specs.declared.query.Question.{Question}
+use Rattle.apex_rows.specs.declared.row.Row.{Row}
 use Rattle.record_store.specs.Places.{answer_to}
 use Rattle.tenant_core.specs.Logs.{AreCurrent, IsStaleAt}
 

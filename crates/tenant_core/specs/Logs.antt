@@ -1,9 +1,9 @@
 -- Logs and the rows more they are (docs/platform.md, "Shards").
 use Rattle.std.specs.Prelude.{◌≡◌, ℕ, zero, suc, List, [], ◌∷◌, Option, None, Some}
-use Rattle.apex_schema.specs.declared.query.Answer.{Answer}
-use Rattle.apex_schema.specs.declared.query.Question.{Question}
-use Rattle.apex_schema.specs.declared.query.Question.TheVariants.{Read, Grab}
-use Rattle.apex_schema.specs.declared.row.Row.{Row}
+use Rattle.apex_rows.specs.declared.query.Answer.{Answer}
+use Rattle.apex_rows.specs.declared.query.Question.{Question}
+use Rattle.apex_rows.specs.declared.query.Question.TheVariants.{Read, Grab}
+use Rattle.apex_rows.specs.declared.row.Row.{Row}
 use Rattle.record_store.specs.Places.{answer_to}
 use Rattle.tenant_core.specs.declared.log.Log.{Log}
 

@@ -4,12 +4,12 @@ use Rattle.std.specs.List.{list_any}
 use Rattle.std.specs.Ordering.{nat_cmp}
 use Rattle.std.specs.Map.{lookup}
 use Rattle.std.specs.BTreeMap.{is_at}
-use Rattle.apex_schema.specs.declared.reply.Reply.{Reply}
-use Rattle.apex_schema.specs.declared.row.Row.{Row}
-use Rattle.apex_schema.specs.declared.row.Writes.{Writes}
-use Rattle.apex_schema.specs.Stores.{taken}
+use Rattle.apex_requests.specs.declared.reply.Reply.{Reply}
+use Rattle.apex_rows.specs.declared.row.Row.{Row}
+use Rattle.apex_rows.specs.declared.row.Writes.{Writes}
+use Rattle.row_meaning.specs.Stores.{taken}
 use Rattle.record_store.specs.Heaps.{Heap, rows_in}
-use Rattle.session_trails.specs.States.{Told, IsSession, Ends as Closes, fresh}
+use Rattle.tenant_trails.specs.States.{Told, IsSession, Ends as Closes, fresh}
 use Rattle.tenant_parts.specs.declared.part.TenantPart.{TenantPart}
 use Rattle.tenant_trails.specs.Legal.{Session, some_writes}
 use Rattle.tenant_core.specs.declared.log.Log.{Log}

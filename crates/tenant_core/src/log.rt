@@ -4,11 +4,11 @@ ghost use Rattle.std.specs.Prelude.{◌≡◌, ◌++◌, ◌∷◌, [], OnOk, On
 
 use apex_list::Items;
 use apex_num::NoMemory;
-use apex_schema::{Answer, Question};
+use apex_rows::{Answer, Question};
 use std::alloc::Global;
 
 /// What an attempt of a request asked, and what it was answered, place by place.
-#[derive(Debug, Drop)]
+#[derive(Drop)]
 pub struct Log {
     pub asked: Items<Question>,
     pub answers: Items<Answer>,

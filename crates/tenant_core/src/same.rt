@@ -3,7 +3,7 @@
 ghost use Rattle.std.specs.Prelude.{◌≡◌, MatchBool};
 
 use apex_num::Cell;
-use apex_schema::{Answer, Row};
+use apex_rows::{Answer, Row};
 
 fn same_cell(one: &Cell, other: &Cell) -> bool
     ensures { MatchBool result (one.now ≡ other.now) (one.now ≡ other.now → ⊥) }

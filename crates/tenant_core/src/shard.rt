@@ -1,11 +1,11 @@
 // Shards.
 
 ghost use Rattle.std.specs.Prelude.{◌≡◌, ◌++◌, ◌∷◌, [], ℕ, length, IfOk, OnOk, OnErr};
-ghost use Rattle.apex_schema.specs.Stores.{taken};
-ghost use Rattle.apex_schema.specs.declared.query.Answer.TheVariants.{Rows};
+ghost use Rattle.row_meaning.specs.Stores.{taken};
+ghost use Rattle.apex_rows.specs.declared.query.Answer.TheVariants.{Rows};
 ghost use Rattle.record_store.specs.Heaps.{rows_in};
 ghost use Rattle.record_store.specs.Places.{answer_to};
-ghost use Rattle.session_trails.specs.States.{MayEnd, MayStart, IsSession, Starts, Ends};
+ghost use Rattle.tenant_trails.specs.States.{MayEnd, MayStart, IsSession, Starts, Ends};
 ghost use Rattle.tenant_trails.specs.Legal.{Session as TheSession, some_writes};
 ghost use Rattle.tenant_core.specs.Finishes.{AreFinished};
 ghost use Rattle.tenant_core.specs.Logs as logs;
@@ -14,14 +14,15 @@ ghost use Rattle.tenant_core.specs.Shards as spec;
 use crate::log::Log;
 use crate::same::same_answer;
 use apex_list::Items;
-use apex_num::NoMemory;
-use apex_schema::{Answer, Event, Question, Reply, Row, Writes};
+use apex_num::{NoMemory, copy_list};
+use apex_requests::{Event, Reply};
+use apex_rows::{Answer, Question, Row, Writes};
 use record_store::Store;
-use session_trails::Trail;
 use std::alloc::{AllocError, Global};
 use std::collections::BTreeMap;
 use std::marker::Model;
 use tenant_parts::TenantPart;
+use tenant_trails::Trail;
 
 /// What is kept of a tenant beside its rows.
 #[derive(Drop)]
@@ -31,7 +32,7 @@ pub struct Kept {
 }
 
 /// The part of a tenant, and its trail.
-#[derive(Debug, Drop)]
+#[derive(Drop)]
 pub struct Finished {
     pub tenant: usize,
     pub part: TenantPart,
@@ -141,23 +142,18 @@ fn stale_in(store: &mut Store, tenant: usize, log: &Log) -> Result<Option<usize>
     Ok(None)
 }
 
-fn copied(alloc: Global, rows: &[Row]) -> Result<Items<Row>, NoMemory>
-    ensures { IfOk result (λ copies. copies ≡ rows.now) }
-{
-    let mut copies = Items::new(alloc);
-    'rows: for row in rows {
-        copies.push(row.copy()?)?;
-    }
-    Ok(copies)
-}
-
 // The rows of a seed come into the store, as those of a tenant.
-fn put_seed(store: &mut Store, alloc: Global, tenant: usize, seed: &[Row]) -> Result<(), NoMemory>
+fn put_seed(
+    store: &mut Store,
+    alloc: Global,
+    tenant: usize,
+    seed: &Items<Row>,
+) -> Result<(), NoMemory>
     ensures own { OnOk result (rows_in tenant store.new.tenants ≡ taken (record { puts = seed.now; drops = [] }) (rows_in tenant store.old.tenants)) }
     ensures others { (other : ℕ) → (other ≡ tenant → ⊥) → rows_in other store.new.tenants ≡ rows_in other store.old.tenants }
 {
     let writes = Writes {
-        puts: copied(alloc, seed)?,
+        puts: copy_list(seed)?,
         drops: Items::new(alloc),
     };
     store.reserve(tenant, &writes)?;
@@ -224,7 +220,7 @@ impl Shard {
         ensures opened { OnOk result (spec.IsOpened self.new (tenant, part)) }
         ensures others { OnOk result (spec.OthersStay tenant self.old self.new) }
     {
-        put_seed(&mut self.store, self.alloc, tenant, part.seed.as_slice())?;
+        put_seed(&mut self.store, self.alloc, tenant, &part.seed)?;
         let trail = Trail::new(self.alloc, part.sessions.len())?;
         match self.tenants.insert(tenant, Kept { part, trail }) {
             Ok(_) => push_number(&mut self.order, tenant),

@@ -2,20 +2,20 @@
 use Rattle.std.proofs.Common.{arith, ◌≡◌, ◌<◌, ◌+◌, inl, inr, ℕ, suc, List, [], ◌∷◌, ◌++◌, map, length, Result, Ok, Err, MatchResult, refl, sym, ap, ◌∙◌, subst}
 use Rattle.std.specs.Result.{IsErr, IsErrAnd}
 use Rattle.std.proofs.lemmas.List.{length-map}
-use Rattle.apex_schema.specs.declared.build.SchemaFault.{SchemaFault}
-use Rattle.apex_schema.specs.declared.build.SchemaFault.TheVariants as Schemas
-use Rattle.apex_schema.specs.declared.plan.SchemaPlan.{SchemaPlan}
+use Rattle.schema_plans.specs.declared.plan_fault.SchemaFault.{SchemaFault}
+use Rattle.schema_plans.specs.declared.plan_fault.SchemaFault.TheVariants as Schemas
+use Rattle.schema_plans.specs.declared.plan.SchemaPlan.{SchemaPlan}
 use Rattle.apex_schema.specs.declared.schema.Schema.{Schema}
-use Rattle.apex_schema.specs.Schemas.{user_of}
+use Rattle.schema_plans.specs.Schemas.{user_of}
 use Rattle.apex_syntax.specs.declared.unit.Unit.{Unit as Tree}
 use Rattle.apex_types.specs.declared.fault.TypeFault.{TypeFault}
-use Rattle.tenant_parts.specs.declared.program.Program.{Program}
+use Rattle.typed_program.specs.declared.program.Program.{Program}
 use Rattle.apex_types.specs.Checks.{Check, Gives, Wrong as WrongIn, next, in_unit, units_from, class_after, block_of, home_of, typed_units, program_with, checked}
-use Rattle.schema_places.specs.Names.{object_names}
+use Rattle.record_words.specs.Names.{object_names}
 use Rattle.type_names.specs.Walks.{Walk}
 use Rattle.type_names.specs.Walks as W
-use Rattle.unit_walk.specs.Units.{unit_step}
-use Rattle.body_walk.specs.Homes.{Home}
+use Rattle.apex_types.specs.Units.{unit_step}
+use Rattle.apex_types.specs.Homes.{Home}
 use Rattle.bundle_read.specs.declared.entries.TenantPlan.{TenantPlan}
 use Rattle.bundle_read.specs.declared.entries.UnitPlan.{UnitPlan}
 use Rattle.seed_rows.specs.declared.fault.SeedFault.{SeedFault}
@@ -55,15 +55,15 @@ module _ (plan : TenantPlan) (schema : Schema) (deployed : IsDeployed plan.schem
   rest_fault NoMemory h = tt
 
 -- the code of units has its fault whatever the blocks are, and is a program whatever they are
-any_blocks : (made : Check (List TypedUnit)) (h : Home) (blocks : List Tree) (program : Program) → next (next made (λ units. Gives (units, map (block_of h) blocks))) (λ code. Gives (program_with h code)) ≡ Gives program
-    → (p : Program) × (next (next made (λ units. Gives (units, map (block_of h) []))) (λ code. Gives (program_with h code)) ≡ Gives p)
-any_blocks (Gives units) h blocks program is = (program_with h (units, []), refl)
+any_blocks : (made : Check (List TypedUnit)) (h : Home) (blocks : List Tree) (program : Program) → next (next made (λ units. Gives (units, map (block_of h) blocks))) (λ code. Gives (program_with code)) ≡ Gives program
+    → (p : Program) × (next (next made (λ units. Gives (units, map (block_of h) []))) (λ code. Gives (program_with code)) ≡ Gives p)
+any_blocks (Gives units) h blocks program is = (program_with (units, []), refl)
 any_blocks (WrongIn fault) h blocks program is = absurd (cc)
 
 pub no_blocks : (schema : Schema) (units blocks : List Tree) (program : Program) → IsProgram schema units blocks program → (p : Program) × IsProgram schema units [] p
 no_blocks schema units blocks program is = any_blocks (typed_units schema.objects units) (home_of schema.objects units) blocks program is
 
-same_fault : (made : Check (List TypedUnit)) (h : Home) (blocks : List Tree) (fault : TypeFault) → next (next made (λ units. Gives (units, map (block_of h) blocks))) (λ code. Gives (program_with h code)) ≡ WrongIn fault → made ≡ WrongIn fault
+same_fault : (made : Check (List TypedUnit)) (h : Home) (blocks : List Tree) (fault : TypeFault) → next (next made (λ units. Gives (units, map (block_of h) blocks))) (λ code. Gives (program_with code)) ≡ WrongIn fault → made ≡ WrongIn fault
 same_fault (Gives units) h blocks fault is = absurd (cc)
 same_fault (WrongIn other) h blocks fault is = let e : other ≡ fault = cc in ap WrongIn e
 

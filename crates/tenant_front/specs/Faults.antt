@@ -1,6 +1,6 @@
 -- The faults of the steps as faults of a part.
-use Rattle.apex_schema.specs.declared.build.SchemaFault.{SchemaFault}
-use Rattle.apex_schema.specs.declared.build.SchemaFault.TheVariants as Schema
+use Rattle.schema_plans.specs.declared.plan_fault.SchemaFault.{SchemaFault}
+use Rattle.schema_plans.specs.declared.plan_fault.SchemaFault.TheVariants as Schema
 use Rattle.seed_rows.specs.declared.fault.SeedFault.{SeedFault}
 use Rattle.seed_rows.specs.declared.fault.SeedFault.TheVariants as Seed
 use Rattle.tenant_front.specs.declared.fault.FrontFault.{FrontFault}

@@ -1,11 +1,11 @@
 -- What a tenant of a bundle is, and its first fault (docs/formats.md, "Tenants").
 use Rattle.std.specs.Prelude.{◌≡◌, ◌⊎◌, ℕ, List, [], map, slice_get, Option, None, Some, Result, Ok, Err}
-use Rattle.apex_schema.specs.declared.reply.Fault.{Fault}
-use Rattle.apex_schema.specs.declared.row.Row.{Row}
+use Rattle.fault_words.specs.declared.fault.Fault.{Fault}
+use Rattle.apex_rows.specs.declared.row.Row.{Row}
 use Rattle.apex_schema.specs.declared.schema.Schema.{Schema}
 use Rattle.apex_syntax.specs.declared.unit.Unit.{Unit as Tree}
 use Rattle.apex_types.specs.declared.fault.TypeFault.{TypeFault}
-use Rattle.tenant_parts.specs.declared.program.Program.{Program}
+use Rattle.typed_program.specs.declared.program.Program.{Program}
 use Rattle.apex_types.specs.Checks.{Gives, Wrong as WrongIn, checked, typed_units}
 use Rattle.bundle_read.specs.declared.entries.TenantPlan.{TenantPlan}
 use Rattle.bundle_read.specs.declared.entries.UnitPlan.{UnitPlan}

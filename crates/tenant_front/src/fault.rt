@@ -2,7 +2,8 @@
 
 ghost use Rattle.std.specs.Prelude.{◌≡◌};
 
-use apex_schema::{Fault, SchemaFault};
+use fault_words::Fault;
+use schema_plans::SchemaFault;
 use seed_rows::SeedFault;
 use std::alloc::AllocError;
 use tenant_sessions::SessionFault;

@@ -2,9 +2,8 @@
 #![tactic(auto)]
 
 mod part;
-mod program;
 mod session;
 
 pub use part::TenantPart;
-pub use program::Program;
 pub use session::Session;
+pub use typed_program::Program;

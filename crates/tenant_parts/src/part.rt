@@ -1,12 +1,13 @@
 // The part of a tenant.
 
-use crate::program::Program;
 use crate::session::Session;
 use apex_list::Items;
-use apex_schema::{Row, Schema};
+use apex_rows::Row;
+use apex_schema::Schema;
+use typed_program::Program;
 
 /// What a run has of a tenant.
-#[derive(Debug, Drop)]
+#[derive(Drop)]
 pub struct TenantPart {
     pub schema: Schema,
     pub program: Program,

@@ -1,10 +1,10 @@
 // Sessions.
 
 use apex_list::Items;
-use apex_schema::Request;
+use apex_requests::Request;
 
 /// A session: requests that run one after the other.
-#[derive(Debug, Drop)]
+#[derive(Drop)]
 pub struct Session {
     pub requests: Items<Request>,
 }

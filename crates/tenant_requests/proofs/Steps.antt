@@ -1,7 +1,7 @@
 -- Requests and sessions, one after the other.
 use Rattle.std.proofs.Common.{arith, ◌≡◌, ◌<◌, ◌+◌, ℕ, List, [], ◌∷◌, ◌++◌, append_assoc, length, take, get_or, Option, refl, sym, ap, ◌∙◌, subst}
 use Rattle.std.proofs.lemmas.List.{take_more, length-take-le}
-use Rattle.apex_schema.specs.declared.request.Request.{Request}
+use Rattle.apex_requests.specs.declared.request.Request.{Request}
 use Rattle.apex_schema.specs.declared.schema.Schema.{Schema}
 use Rattle.apex_syntax.specs.declared.unit.Unit.{Unit as Tree}
 use Rattle.bundle_read.specs.declared.entries.RequestEntry.{RequestEntry}

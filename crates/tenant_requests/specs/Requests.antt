@@ -1,9 +1,9 @@
 -- The requests of sessions (docs/formats.md, "Requests").
 use Rattle.std.specs.Prelude.{◌≡◌, ◌⊎◌, ℕ, List, [], ◌∷◌, ◌++◌, length, slice_get, Option, None, Some}
-use Rattle.apex_schema.specs.declared.reply.Fault.{Fault}
-use Rattle.apex_schema.specs.declared.request.Request.{Request}
-use Rattle.apex_schema.specs.declared.request.Work.{Work}
-use Rattle.apex_schema.specs.declared.request.Work.TheVariants as W
+use Rattle.fault_words.specs.declared.fault.Fault.{Fault}
+use Rattle.apex_requests.specs.declared.request.Request.{Request}
+use Rattle.apex_requests.specs.declared.request.Work.{Work}
+use Rattle.apex_requests.specs.declared.request.Work.TheVariants as W
 use Rattle.apex_schema.specs.declared.schema.Schema.{Schema}
 use Rattle.apex_syntax.specs.declared.unit.Unit.{Unit as Tree}
 use Rattle.bundle_read.specs.declared.entries.RequestEntry.{RequestEntry}

@@ -6,7 +6,7 @@ ghost use Rattle.tenant_requests.specs.Requests as spec;
 use crate::open::{OpenRequest, OpenSession, OpenWork};
 use apex_list::Items;
 use apex_num::{NoMemory, Text};
-use apex_schema::{Request, Work};
+use apex_requests::{Request, Work};
 use std::alloc::{AllocError, Global};
 use tenant_parts::Session;
 use tenant_units::{UnitFault, fault_at};

@@ -5,16 +5,16 @@ ghost use Rattle.tenant_requests.specs.Requests as spec;
 
 use apex_list::Items;
 use apex_num::{NoMemory, Text};
-use apex_schema::Work;
+use apex_requests::Work;
 use apex_syntax::Unit;
 use bundle_read::{RequestEntry, SessionEntry, WorkEntry};
+use record_words::SchemaPlaces;
 use save_requests::save_work;
-use schema_places::SchemaPlaces;
 use std::alloc::{AllocError, Global};
 use tenant_units::{UnitFault, block_tree};
 
 /// What a request does, as far as it is known before its block is checked.
-#[derive(Debug, Drop)]
+#[derive(Drop)]
 pub enum OpenWork {
     /// It runs the block with this number, whose text this is.
     Block(usize, Text),
@@ -22,7 +22,7 @@ pub enum OpenWork {
 }
 
 /// A request whose block isn't checked yet.
-#[derive(Debug, Drop)]
+#[derive(Drop)]
 pub struct OpenRequest {
     /// The number of the user.
     pub user: usize,
@@ -32,13 +32,13 @@ pub struct OpenRequest {
 }
 
 /// The requests of a session.
-#[derive(Debug, Drop)]
+#[derive(Drop)]
 pub struct OpenSession {
     pub requests: Items<OpenRequest>,
 }
 
 /// The sessions of a tenant, and the trees of their blocks in the order of the sessions and their requests.
-#[derive(Debug, Drop)]
+#[derive(Drop)]
 pub struct OpenSessions {
     pub sessions: Items<OpenSession>,
     pub blocks: Items<Unit>,
@@ -47,11 +47,11 @@ pub struct OpenSessions {
 fn block_work(alloc: Global, text: &Text, blocks: &mut Items<Unit>) -> Result<OpenWork, NoMemory>
     ensures { IfOk result (λ work. spec.IsBlockWork text.now blocks.old work blocks.new) }
 {
-    match block_tree(alloc, text) {
+    match block_tree(alloc, text.bytes()) {
         Ok(tree) => {
             let number = blocks.len();
             let text = text.copy()?;
-            blocks.push(tree)?;
+            blocks.push(tree.into_value())?;
             Ok(OpenWork::Block(number, text))
         }
         Err(UnitFault::Wrong(fault)) => Ok(OpenWork::Known(Work::Refused(fault))),

@@ -4,13 +4,13 @@ use Rattle.std.specs.Prelude.{cond, bytes_eq, All}
 use Rattle.std.proofs.lemmas.List.{length-map}
 use Rattle.std.proofs.lemmas.List.Elements.{All-head}
 use Rattle.apex_text.specs.Fold.{folded}
-use Rattle.apex_schema.specs.Names.{one_more, place_of}
-use Rattle.apex_schema.specs.Schemas.{number_or}
-use Rattle.apex_schema.specs.declared.plan.UserPlan.{UserPlan}
-use Rattle.apex_schema.specs.declared.request.Request.{Request}
+use Rattle.schema_names.specs.Names.{one_more, place_of}
+use Rattle.schema_plans.specs.Schemas.{number_or}
+use Rattle.schema_plans.specs.declared.plan.UserPlan.{UserPlan}
+use Rattle.apex_requests.specs.declared.request.Request.{Request}
 use Rattle.apex_schema.specs.declared.schema.Schema.{Schema}
 use Rattle.apex_syntax.specs.declared.unit.Unit.{Unit as Tree}
-use Rattle.bundle_laws.specs.Laws.{HasFewRequests}
+use Rattle.bundle_read.specs.Laws.{HasFewRequests}
 use Rattle.bundle_read.specs.declared.entries.RequestEntry.{RequestEntry}
 use Rattle.bundle_read.specs.declared.entries.SessionEntry.{SessionEntry}
 use Rattle.record_ids.specs.Ids.{most}

@@ -6,18 +6,18 @@ use Rattle.std.proofs.lemmas.Bool.{and_parts, or_cases, or_parts, ltb-true, eqb-
 use Rattle.std.proofs.lemmas.List.{length-map}
 use Rattle.std.proofs.lemmas.List.Elements.{All-cons, All-nil}
 use Rattle.apex_num.specs.Ids.{IsAlphanumeric}
-use Rattle.apex_schema.specs.declared.plan.ObjectPlan.{ObjectPlan}
-use Rattle.apex_schema.specs.declared.plan.SchemaPlan.{SchemaPlan}
-use Rattle.apex_schema.specs.declared.reply.FaultWord.{FaultWord}
-use Rattle.apex_schema.specs.declared.reply.FaultWord.TheVariants.{Duplicate, BadName, BadPrefix}
+use Rattle.schema_plans.specs.declared.plan.ObjectPlan.{ObjectPlan}
+use Rattle.schema_plans.specs.declared.plan.SchemaPlan.{SchemaPlan}
+use Rattle.fault_words.specs.declared.fault.FaultWord.{FaultWord}
+use Rattle.fault_words.specs.declared.fault.FaultWord.TheVariants.{Duplicate, BadName, BadPrefix}
 use Rattle.apex_schema.specs.declared.rule.Rule.{Rule}
 use Rattle.apex_schema.specs.declared.schema.Object.{Object}
 use Rattle.apex_schema.specs.declared.schema.Schema.{Schema}
 use Rattle.apex_text.specs.Fold.{folded}
-use Rattle.apex_schema.specs.Names.{is_letter, is_digit, has, is_bad_name}
-use Rattle.apex_schema.specs.Plans.{or_later, first_of, when, standing, is_taken, object_names, row_share_name, is_prefix, prefixes, is_bad_prefix, object_word, object_fault, people_fault, data_fault, all_fields_fault, rules_fault}
-use Rattle.apex_schema.specs.Schemas.{numbered, object_of, row_share, schema_of, user_of}
-use Rattle.apex_schema.specs.Validity.{with_each}
+use Rattle.schema_names.specs.Names.{is_letter, is_digit, has, is_bad_name}
+use Rattle.schema_plans.specs.Plans.{or_later, first_of, when, standing, is_taken, object_names, row_share_name, is_prefix, prefixes, is_bad_prefix, object_word, object_fault, people_fault, data_fault, all_fields_fault, rules_fault}
+use Rattle.schema_plans.specs.Schemas.{numbered, object_of, row_share, schema_of, user_of}
+use Rattle.schema_plans.specs.Validity.{with_each}
 use Rattle.record_ids.specs.Ids.{IsPrefix, most}
 use Rattle.save_procedure.specs.Does.{AllPrefixed, IsSound}
 use Rattle.tenant_schema.specs.Deployed.{IsDeployed}

@@ -1,6 +1,6 @@
 -- What is to be shown of parts.
 use Rattle.std.specs.Prelude.{◌≤◌, length}
-use Rattle.bundle_laws.specs.Laws.{IsBounded}
+use Rattle.bundle_read.specs.Laws.{IsBounded}
 use Rattle.bundle_read.specs.declared.entries.TenantPlan.{TenantPlan}
 use Rattle.save_procedure.specs.Does.{IsSound}
 use Rattle.tenant_parts.specs.declared.part.TenantPart.{TenantPart}

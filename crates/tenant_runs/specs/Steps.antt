@@ -1,16 +1,16 @@
 -- What the only session of a tenant has to run.
 use Rattle.std.specs.Prelude.{◌≡◌, ◌≤◌, List, [], ◌∷◌, length, Option, None, Some}
-use Rattle.apex_schema.specs.declared.reply.Event.{Event}
-use Rattle.apex_schema.specs.declared.request.Request.{Request}
-use Rattle.apex_schema.specs.declared.row.Row.{Row}
+use Rattle.apex_requests.specs.declared.reply.Event.{Event}
+use Rattle.apex_requests.specs.declared.request.Request.{Request}
+use Rattle.apex_rows.specs.declared.row.Row.{Row}
 use Rattle.apex_schema.specs.declared.schema.Schema.{Schema}
 use Rattle.session_runs.specs.Replies.{IsRunOf}
 use Rattle.session_runs.specs.Sessions.{HaveUsers, IsNew, tenant_of}
-use Rattle.session_trails.specs.States.{Told}
+use Rattle.tenant_trails.specs.States.{Told}
 use Rattle.tenant_parts.specs.declared.session.Session.{Session}
 use Rattle.tenant_trails.specs.Legal.{Closed}
-use Rattle.typed_code.specs.declared.code.Image.{Image}
-use Rattle.typed_statements.specs.declared.stmt.TypedStmt.{TypedStmt}
+use Rattle.stack_code.specs.declared.code.Image.{Image}
+use Rattle.typed_program.specs.declared.program.Program.{Program}
 
 -- the requests of the first session, if there is one
 abbrev pub first_requests : List Session → Option (List Request)
@@ -27,7 +27,7 @@ IsNewFor None told = told.events ≡ []
 IsNewFor (Some requests) told = IsNew told
 
 -- the trail is legal and closes each request, and each reply is the machine's
-abbrev pub IsRunFirst : Schema → List (Option (List TypedStmt)) → List (Option Image) → List Row → Option (List Request) → List Event → Type 0
-IsRunFirst schema blocks images seed None trail = trail ≡ []
-IsRunFirst schema blocks images seed (Some requests) trail =
-    Closed (tenant_of schema blocks seed (requests ∷ [])) trail × IsRunOf schema images (requests ∷ []) (tenant_of schema blocks seed (requests ∷ [])) trail
+abbrev pub IsRunFirst : Schema → Program → List (Option Image) → List Row → Option (List Request) → List Event → Type 0
+IsRunFirst schema program images seed None trail = trail ≡ []
+IsRunFirst schema program images seed (Some requests) trail =
+    Closed (tenant_of schema program seed (requests ∷ [])) trail × IsRunOf schema images (requests ∷ []) (tenant_of schema program seed (requests ∷ [])) trail

@@ -5,22 +5,22 @@ ghost use Rattle.record_store.specs.Heaps.{rows_in};
 ghost use Rattle.save_procedure.specs.Does.{IsSound};
 ghost use Rattle.session_runs.specs.Sessions.{AreChecked, AreImages};
 ghost use Rattle.tenant_core.specs.Shards.{AreOpened, part_at, seeded, told_at};
-ghost use Rattle.typed_statements.specs.declared.stmt.TypedStmt.{TypedStmt as Stmt};
+ghost use Rattle.typed_program.specs.declared.program.Program.{Program as Code};
 ghost use Rattle.tenant_runs.specs.Steps as steps;
 ghost use Rattle.tenant_runs.specs.Tenants as spec;
 
 use apex_list::Items;
 use apex_num::NoMemory;
-use apex_schema::{Event, Request, Schema};
-use block_images::block_images;
-use session_runs::run_session;
+use apex_requests::{Event, Request};
+use apex_schema::Schema;
+use session_runs::{block_images, run_session};
+use stack_code::Image;
 use std::alloc::Global;
 use tenant_core::{Finished, Shard};
 use tenant_parts::{Session, TenantPart};
-use typed_code::Image;
 
 /// What a tenant came to.
-#[derive(Debug, Drop)]
+#[derive(Drop)]
 pub struct Ran {
     /// The compiled code of its blocks by their numbers, none where a block's code has a fault.
     pub images: Items<Option<Image>>,
@@ -70,7 +70,7 @@ fn run_first(
     requires checked { AreChecked images.now }
     requires few { steps.IsFew requests }
     requires new { steps.IsNewFor requests (told_at 0 shard.old.tenants) }
-    ensures runs { (blocks : List (Option (List Stmt))) → AreImages blocks images.now → OnOk result (steps.IsRunFirst schema.now blocks images.now (rows_in 0 shard.old.rows) requests (told_at 0 shard.new.tenants).events) }
+    ensures runs { (program : Code) → AreImages program.blocks images.now → OnOk result (steps.IsRunFirst schema.now program images.now (rows_in 0 shard.old.rows) requests (told_at 0 shard.new.tenants).events) }
     ensures part { part_at 0 shard.new.tenants ≡ part_at 0 shard.old.tenants }
     ensures order { shard.new.order ≡ shard.old.order }
 {
@@ -104,7 +104,7 @@ fn trail_of(
     requires checked { AreChecked images.now }
     requires few { spec.AreFew part.sessions }
     requires first { requests ≡ steps.first_requests part.sessions }
-    ensures { (blocks : List (Option (List Stmt))) → AreImages blocks images.now → IfOk result (spec.IsTrail schema.now blocks images.now (seeded part.seed) part.sessions) }
+    ensures { (program : Code) → AreImages program.blocks images.now → IfOk result (spec.IsTrail schema.now program images.now (seeded part.seed) part.sessions) }
 {
     let mut shard = alone(alloc, part)?;
     run_first(alloc, schema, images, requests, &mut shard)?;

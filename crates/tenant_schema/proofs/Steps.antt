@@ -4,17 +4,17 @@ use Rattle.std.specs.List.{list_all}
 use Rattle.std.proofs.lemmas.Bool.{and_from}
 use Rattle.std.proofs.lemmas.List.{take_more, take-append-drop, length-take, length-append}
 use Rattle.std.proofs.Math.Seq.{drop-cons}
-use Rattle.apex_schema.specs.declared.build.SchemaFault.{SchemaFault}
-use Rattle.apex_schema.specs.declared.build.SchemaFault.TheVariants.{Wrong, NoMemory}
-use Rattle.apex_schema.specs.declared.plan.SchemaPlan.{SchemaPlan}
-use Rattle.apex_schema.specs.declared.plan.ObjectPlan.{ObjectPlan}
-use Rattle.apex_schema.specs.declared.plan.RulePlan.{RulePlan}
+use Rattle.schema_plans.specs.declared.plan_fault.SchemaFault.{SchemaFault}
+use Rattle.schema_plans.specs.declared.plan_fault.SchemaFault.TheVariants.{Wrong, NoMemory}
+use Rattle.schema_plans.specs.declared.plan.SchemaPlan.{SchemaPlan}
+use Rattle.schema_plans.specs.declared.plan.ObjectPlan.{ObjectPlan}
+use Rattle.schema_plans.specs.declared.plan.RulePlan.{RulePlan}
 use Rattle.apex_schema.specs.declared.rule.Rule.{Rule}
 use Rattle.apex_schema.specs.declared.schema.Object.{Object}
-use Rattle.apex_schema.specs.declared.reply.Fault.{Fault}
-use Rattle.apex_schema.specs.Formulas.{rule_fits, fits, all_fit}
-use Rattle.apex_schema.specs.Plans.{schema_fault}
-use Rattle.apex_schema.specs.Schemas.{numbered, object_of, row_share, head_of, schema_of}
+use Rattle.fault_words.specs.declared.fault.Fault.{Fault}
+use Rattle.schema_plans.specs.Formulas.{rule_fits, fits, all_fit}
+use Rattle.schema_plans.specs.Plans.{schema_fault}
+use Rattle.schema_plans.specs.Schemas.{numbered, object_of, row_share, head_of, schema_of}
 use Rattle.apex_schema.specs.declared.schema.Schema.{Schema}
 use Rattle.formula_rules.specs.Grammar.{IsFormula}
 use Rattle.tenant_schema.specs.Deployed.{AreFormulas, IsFirstBad, HaveFormulas, bad_rule, IsRuleFault, Deploys}

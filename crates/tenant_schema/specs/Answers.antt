@@ -3,13 +3,13 @@ use Rattle.std.specs.Prelude.{◌≡◌, ℕ, List, Some, slice_get, Result, Ok,
 use Rattle.formula_rules.specs.declared.fault.RuleFault.{RuleFault}
 use Rattle.formula_rules.specs.declared.fault.RuleFault.TheVariants.{BadRule, NoMemory as NoMemoryFor}
 use Rattle.formula_rules.specs.Grammar.{IsFormula}
-use Rattle.apex_schema.specs.declared.plan.SchemaPlan.{SchemaPlan}
-use Rattle.apex_schema.specs.declared.plan.ObjectPlan.{ObjectPlan}
-use Rattle.apex_schema.specs.declared.plan.RulePlan.{RulePlan}
+use Rattle.schema_plans.specs.declared.plan.SchemaPlan.{SchemaPlan}
+use Rattle.schema_plans.specs.declared.plan.ObjectPlan.{ObjectPlan}
+use Rattle.schema_plans.specs.declared.plan.RulePlan.{RulePlan}
 use Rattle.apex_schema.specs.declared.rule.Rule.{Rule}
 use Rattle.apex_schema.specs.declared.schema.Object.{Object}
-use Rattle.apex_schema.specs.declared.build.SchemaFault.{SchemaFault}
-use Rattle.apex_schema.specs.declared.build.SchemaFault.TheVariants.{Wrong, NoMemory}
+use Rattle.schema_plans.specs.declared.plan_fault.SchemaFault.{SchemaFault}
+use Rattle.schema_plans.specs.declared.plan_fault.SchemaFault.TheVariants.{Wrong, NoMemory}
 use Rattle.tenant_schema.specs.declared.formulas.RulesFault.{RulesFault}
 use Rattle.tenant_schema.specs.declared.formulas.RulesFault.TheVariants.{Bad, NoMemory as NoRoom}
 use Rattle.tenant_schema.specs.Deployed.{AreFormulas, IsFirstBad, HaveFormulas, bad_rule, IsRuleFault}

@@ -1,18 +1,18 @@
 -- The schema of a plan with the formulas of its rules (docs/platform.md, "Schemas").
 use Rattle.std.specs.Prelude.{◌≡◌, ◌⊎◌, ℕ, ◌+◌, List, [], ◌∷◌, ◌++◌, codes, Some, None, Result, Ok, Err}
-use Rattle.apex_schema.specs.declared.plan.SchemaPlan.{SchemaPlan}
-use Rattle.apex_schema.specs.declared.plan.ObjectPlan.{ObjectPlan}
-use Rattle.apex_schema.specs.declared.plan.RulePlan.{RulePlan}
+use Rattle.schema_plans.specs.declared.plan.SchemaPlan.{SchemaPlan}
+use Rattle.schema_plans.specs.declared.plan.ObjectPlan.{ObjectPlan}
+use Rattle.schema_plans.specs.declared.plan.RulePlan.{RulePlan}
 use Rattle.apex_schema.specs.declared.rule.Rule.{Rule}
 use Rattle.apex_schema.specs.declared.schema.Object.{Object}
 use Rattle.apex_schema.specs.declared.schema.Schema.{Schema}
-use Rattle.apex_schema.specs.declared.reply.Fault.{Fault}
-use Rattle.apex_schema.specs.declared.reply.FaultWord.TheVariants.{BadRule}
-use Rattle.apex_schema.specs.declared.build.SchemaFault.{SchemaFault}
-use Rattle.apex_schema.specs.declared.build.SchemaFault.TheVariants.{Wrong, NoMemory}
-use Rattle.apex_schema.specs.Plans.{schema_fault, field_place}
-use Rattle.apex_schema.specs.Schemas.{object_of, schema_of}
-use Rattle.apex_schema.specs.Validity.{with_rules}
+use Rattle.fault_words.specs.declared.fault.Fault.{Fault}
+use Rattle.fault_words.specs.declared.fault.FaultWord.TheVariants.{BadRule}
+use Rattle.schema_plans.specs.declared.plan_fault.SchemaFault.{SchemaFault}
+use Rattle.schema_plans.specs.declared.plan_fault.SchemaFault.TheVariants.{Wrong, NoMemory}
+use Rattle.schema_plans.specs.Plans.{schema_fault, field_place}
+use Rattle.schema_plans.specs.Schemas.{object_of, schema_of}
+use Rattle.schema_plans.specs.Validity.{with_rules}
 use Rattle.formula_rules.specs.Grammar.{IsFormula}
 
 -- ---- the rules of one object

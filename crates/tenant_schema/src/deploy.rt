@@ -1,14 +1,16 @@
 // A plan's schema and its formulas.
 
 ghost use Rattle.std.specs.Prelude.{◌≡◌, ◌≤◌, ◌++◌, ◌∷◌, [], length, map, IfOk, MatchResult};
-ghost use Rattle.apex_schema.specs.Schemas.{numbered, object_of, row_share};
-ghost use Rattle.apex_schema.specs.Validity.{IsValid};
+ghost use Rattle.schema_plans.specs.Schemas.{numbered, object_of, row_share};
+ghost use Rattle.schema_plans.specs.Validity.{IsValid};
 ghost use Rattle.tenant_schema.specs.Answers.{HaveOnly, NoFormulas};
 ghost use Rattle.tenant_schema.specs.Deployed.{Deploys};
 
 use crate::formulas::object_formulas;
 use apex_list::Items;
-use apex_schema::{Object, Rule, Schema, SchemaFault, SchemaPlan};
+use apex_schema::{Object, Rule, Schema};
+use schema_build::{build, with_rules};
+use schema_plans::{SchemaFault, SchemaPlan};
 use std::alloc::Global;
 
 // The formulas of all planned objects.
@@ -32,17 +34,17 @@ fn planned_formulas(
 }
 
 /// The schema of a plan with the formulas of its rules, RowShare behind its objects; or the first fault: those of
-/// `Schema::build` first, and where there is none, `BadRule` of the first rule whose text is no formula of its object,
+/// `schema_build::build` first, and where there is none, `BadRule` of the first rule whose text is no formula of its object,
 /// object by object in their order. Its place is `schema` and the names of the object and the rule, with a dot between.
 pub fn deploy_schema(alloc: Global, plan: &SchemaPlan) -> Result<Schema, SchemaFault>
     requires { length plan.now.users ≤ 1000000 }
     ensures deployed { Deploys plan.now result }
     ensures valid { IfOk result IsValid }
 {
-    let schema = Schema::build(alloc, plan)?;
+    let schema = build(alloc, plan)?;
     let mut rules = planned_formulas(alloc, plan, schema.objects.as_slice())?;
     match rules.push(Vec::new(alloc)) {
-        Ok(()) => Ok(schema.with_rules(rules.into_vec())),
+        Ok(()) => Ok(with_rules(schema, rules.into_vec())),
         Err(_) => Err(SchemaFault::NoMemory),
     }
 }

@@ -5,14 +5,17 @@ ghost use Rattle.formula_rules.specs.Grammar.{field_names};
 ghost use Rattle.tenant_schema.specs.Answers.{IsTold, AreOnly, NotRead, NotOfObject, FaultOf};
 ghost use Rattle.tenant_schema.specs.Deployed as spec;
 
-use apex_list::Items;
+use apex_list::{Boxed, Items};
 use apex_num::{NoMemory, Text};
-use apex_schema::{Fault, FaultWord, Object, ObjectPlan, Places, Rule, RulePlan, SchemaFault};
+use apex_schema::{Object, Rule};
+use fault_words::{Fault, FaultWord};
 use formula_rules::{RuleFault, field_places, read_rule_by};
+use schema_names::Places;
+use schema_plans::{ObjectPlan, RulePlan, SchemaFault};
 use std::alloc::{AllocError, Global};
 
 /// Why the rules of an object have no formulas.
-#[derive(Clone, Copy, Debug, PartialEq, Eq, Drop)]
+#[derive(Clone, Copy, PartialEq, Eq, Drop)]
 pub enum RulesFault {
     /// The rule at this place, the first whose text is no formula.
     Bad(usize),
@@ -36,7 +39,7 @@ fn formula(
     fields: &Places,
     object: &Object,
     rule: &RulePlan,
-) -> Result<Rule, RuleFault>
+) -> Result<Boxed<Rule>, RuleFault>
     requires { fields.now.names.items ≡ field_names object.now.fields }
     ensures { IsTold object.now rule.now result }
 {
@@ -56,7 +59,7 @@ fn formulas(
     let mut read = Items::new(alloc);
     'rules: for i in 0..rules.len() {
         match formula(alloc, fields, object, &rules[i]) {
-            Ok(rule) => read.push(rule)?,
+            Ok(rule) => read.push(rule.into_value())?,
             Err(RuleFault::BadRule) => return Err(RulesFault::Bad(i)),
             Err(RuleFault::NoMemory) => return Err(RulesFault::NoMemory),
         }

@@ -5,6 +5,3 @@ mod deploy;
 mod formulas;
 
 pub use deploy::deploy_schema;
-
-#[cfg(test)]
-mod tests;

@@ -1,7 +1,7 @@
 -- Users that are found one after the other.
 use Rattle.std.proofs.Common.{arith, ◌≡◌, ◌<◌, ◌+◌, ℕ, zero, suc, List, [], ◌∷◌, ◌++◌, length, map, take, get_or, Option, None, Some, option_map, sym, ap, ◌∙◌}
 use Rattle.std.proofs.lemmas.List.{take_more, map_push}
-use Rattle.apex_schema.specs.declared.plan.UserPlan.{UserPlan}
+use Rattle.schema_plans.specs.declared.plan.UserPlan.{UserPlan}
 use Rattle.bundle_read.specs.declared.entries.SessionEntry.{SessionEntry}
 use Rattle.tenant_sessions.specs.declared.users.SessionFault.{SessionFault}
 use Rattle.tenant_sessions.specs.declared.users.SessionFault.TheVariants.{Wrong, NoMemory}

@@ -2,10 +2,10 @@
 use Rattle.std.specs.Prelude.{◌≡◌, ℕ, suc, List, [], ◌∷◌, ◌++◌, map, codes, Option, None, Some, option_map}
 use Rattle.std.specs.Fmt.{decimal}
 use Rattle.apex_text.specs.Fold.{folded}
-use Rattle.apex_schema.specs.Names.{place_of}
-use Rattle.apex_schema.specs.declared.plan.UserPlan.{UserPlan}
-use Rattle.apex_schema.specs.declared.reply.Fault.{Fault}
-use Rattle.apex_schema.specs.declared.reply.FaultWord.TheVariants.{UnknownName}
+use Rattle.schema_names.specs.Names.{place_of}
+use Rattle.schema_plans.specs.declared.plan.UserPlan.{UserPlan}
+use Rattle.fault_words.specs.declared.fault.Fault.{Fault}
+use Rattle.fault_words.specs.declared.fault.FaultWord.TheVariants.{UnknownName}
 use Rattle.bundle_read.specs.declared.entries.SessionEntry.{SessionEntry}
 use Rattle.tenant_sessions.specs.declared.users.SessionFault.{SessionFault}
 use Rattle.tenant_sessions.specs.declared.users.SessionFault.TheVariants.{Wrong, NoMemory}

@@ -5,9 +5,11 @@ ghost use Rattle.tenant_sessions.specs.Users as spec;
 
 use apex_list::Items;
 use apex_num::{NoMemory, Text};
-use apex_schema::{Fault, FaultWord, Places, UserPlan};
 use apex_text::Name;
 use bundle_read::SessionEntry;
+use fault_words::{Fault, FaultWord};
+use schema_names::Places;
+use schema_plans::UserPlan;
 use std::alloc::{AllocError, Global};
 use thiserror::Error;
 

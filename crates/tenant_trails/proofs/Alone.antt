@@ -1,9 +1,9 @@
 -- A tenant with one session.
 use Rattle.std.proofs.Common.{◌≡◌, refl, ap, sym, subst, ◌∙◌, ℕ, zero, suc, Bool, true, false, List, [], ◌∷◌, map, None, Some}
 use Rattle.std.specs.Prelude.{slice_get, slice_set}
-use Rattle.apex_schema.specs.declared.reply.Event.{Event}
-use Rattle.apex_schema.specs.declared.reply.EventKind.{EventKind}
-use Rattle.apex_schema.specs.declared.reply.EventKind.TheVariants.{Start, Grab, Refuse, Restart, End}
+use Rattle.apex_requests.specs.declared.reply.Event.{Event}
+use Rattle.apex_requests.specs.declared.reply.EventKind.{EventKind}
+use Rattle.apex_requests.specs.declared.reply.EventKind.TheVariants.{Start, Grab, Refuse, Restart, End}
 use Rattle.tenant_trails.specs.Runs.{Tenant}
 use Rattle.tenant_trails.specs.Legal.{Session, State, FirstHeld, closing, tell, Meets, LegalFrom, Legal}
 use Rattle.tenant_trails.specs.Laws.{NotRefused, NoneRefused}

@@ -1,2 +1,4 @@
 pub mod Alone
 pub mod Samples
+mod Seen
+mod Legal

@@ -1,16 +1,16 @@
 -- Trails by hand: two sessions with one request each, which asks for one row alone and then drops it.
 use Rattle.std.proofs.Common.{arith, ◌≡◌, refl, ap, sym, ◌∙◌, ℕ, Bool, true, false, List, [], ◌∷◌, Option, None, Some}
 use Rattle.std.specs.Prelude.{slice_get}
-use Rattle.apex_schema.specs.declared.query.Question.TheVariants.{Grab as GrabOf}
-use Rattle.apex_schema.specs.declared.query.Answer.{Answer}
-use Rattle.apex_schema.specs.declared.query.Answer.TheVariants.{Granted}
-use Rattle.apex_schema.specs.declared.reply.Outcome.TheVariants as Outcome
-use Rattle.apex_schema.specs.declared.reply.Counts.{Counts}
-use Rattle.apex_schema.specs.declared.reply.Reply.{Reply}
-use Rattle.apex_schema.specs.declared.reply.Event.{Event}
-use Rattle.apex_schema.specs.declared.reply.EventKind.{EventKind}
-use Rattle.apex_schema.specs.declared.reply.EventKind.TheVariants.{Start, Grab, Refuse, Restart, End}
-use Rattle.apex_schema.specs.declared.row.Writes.{Writes}
+use Rattle.apex_rows.specs.declared.query.Question.TheVariants.{Grab as GrabOf}
+use Rattle.apex_rows.specs.declared.query.Answer.{Answer}
+use Rattle.apex_rows.specs.declared.query.Answer.TheVariants.{Granted}
+use Rattle.apex_requests.specs.declared.reply.Outcome.TheVariants as Outcome
+use Rattle.apex_requests.specs.declared.reply.Counts.{Counts}
+use Rattle.apex_requests.specs.declared.reply.Reply.{Reply}
+use Rattle.apex_requests.specs.declared.reply.Event.{Event}
+use Rattle.apex_requests.specs.declared.reply.EventKind.{EventKind}
+use Rattle.apex_requests.specs.declared.reply.EventKind.TheVariants.{Start, Grab, Refuse, Restart, End}
+use Rattle.apex_rows.specs.declared.row.Writes.{Writes}
 use Rattle.tenant_trails.specs.Runs.{Run, Asks, Ends, Evaluates, Tenant}
 use Rattle.tenant_trails.specs.Legal.{Open, Session, State, begun, AsksFor, LegalTo}
 

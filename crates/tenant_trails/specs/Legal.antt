@@ -1,12 +1,12 @@
 -- Legal trails (docs/platform.md, "Trails").
 use Rattle.std.specs.Prelude.{◌≡◌, ℕ, suc, ◌+◌, ◌<◌, ◌||◌, eqb, Bool, true, false, cond, List, [], ◌∷◌, ◌++◌, length, slice_get, slice_set, map, Option, None, Some}
-use Rattle.apex_schema.specs.declared.reply.Reply.{Reply}
-use Rattle.apex_schema.specs.declared.reply.Event.{Event}
-use Rattle.apex_schema.specs.declared.reply.EventKind.{EventKind}
-use Rattle.apex_schema.specs.declared.reply.EventKind.TheVariants.{Start, Grab, Refuse, Restart, End}
-use Rattle.apex_schema.specs.declared.row.Row.{Row}
-use Rattle.apex_schema.specs.declared.row.Writes.{Writes}
-use Rattle.apex_schema.specs.Stores.{has_id, taken}
+use Rattle.apex_requests.specs.declared.reply.Reply.{Reply}
+use Rattle.apex_requests.specs.declared.reply.Event.{Event}
+use Rattle.apex_requests.specs.declared.reply.EventKind.{EventKind}
+use Rattle.apex_requests.specs.declared.reply.EventKind.TheVariants.{Start, Grab, Refuse, Restart, End}
+use Rattle.apex_rows.specs.declared.row.Row.{Row}
+use Rattle.apex_rows.specs.declared.row.Writes.{Writes}
+use Rattle.row_meaning.specs.Stores.{has_id, taken}
 use Rattle.tenant_trails.specs.Runs.{Evaluates, Tenant}
 
 -- a request that is open: its number, its grabs since it began or began again, how often it began again, the Ids that it

@@ -1,3 +1,5 @@
 pub mod Runs
 pub mod Legal
 pub mod Laws
+pub mod States
+pub mod SessionLaws

@@ -1,11 +1,11 @@
 -- What a request comes to on a store (docs/platform.md, "Trails").
 use Rattle.std.specs.Prelude.{◌≡◌, ℕ, List, [], ◌∷◌, ◌++◌}
-use Rattle.apex_schema.specs.declared.query.Question.{Question}
-use Rattle.apex_schema.specs.declared.query.Question.TheVariants.{Read, Grab}
-use Rattle.apex_schema.specs.declared.query.Answer.{Answer}
-use Rattle.apex_schema.specs.declared.reply.Reply.{Reply}
-use Rattle.apex_schema.specs.declared.row.Row.{Row}
-use Rattle.apex_schema.specs.declared.row.Writes.{Writes}
+use Rattle.apex_rows.specs.declared.query.Question.{Question}
+use Rattle.apex_rows.specs.declared.query.Question.TheVariants.{Read, Grab}
+use Rattle.apex_rows.specs.declared.query.Answer.{Answer}
+use Rattle.apex_requests.specs.declared.reply.Reply.{Reply}
+use Rattle.apex_rows.specs.declared.row.Row.{Row}
+use Rattle.apex_rows.specs.declared.row.Writes.{Writes}
 use Rattle.record_store.specs.Places.{answer_to}
 
 -- on a tape of answers a request asks a further question, or ends with its reply and what it writes

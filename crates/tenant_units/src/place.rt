@@ -6,8 +6,8 @@ ghost use Rattle.tenant_units.specs.Faults as spec;
 use crate::fault::UnitFault;
 use apex_lexer::LexWord;
 use apex_num::{NoMemory, Text};
-use apex_schema::{Fault, FaultWord};
 use apex_text::line_of;
+use fault_words::{Fault, FaultWord};
 use std::alloc::Global;
 use token_grammar::ParseWord;
 

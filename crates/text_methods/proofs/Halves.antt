@@ -1,9 +1,9 @@
 -- Parts of a text, by scalars and by bytes.
 use Rattle.std.proofs.Common.{arith, subst, drop-drop, ◌≡◌, ◌+◌, ◌-◌, ◌<◌, ◌≤◌, zero, suc, ℕ, List, [], ◌∷◌, ◌++◌, length, take, drop, sym, ap, ap₂, ◌∙◌}
-use Rattle.std.specs.Str.{IsUtf8, IsCharBoundary, chars, encode_utf8_all}
+use Rattle.std.specs.Str.{IsUtf8, IsAscii, IsCharBoundary, chars, encode_utf8_all}
 use Rattle.std.specs.Char.{encode_utf8}
-use Rattle.std.proofs.lemmas.Str.{cons_from_encodes, IsCharBoundary-at_seam, encodes-append, encodes-chars, length-le-encodes, chars_from_encodes}
-use Rattle.std.proofs.lemmas.List.{drop_all, take-append-drop, length-append, length-drop}
+use Rattle.std.proofs.lemmas.Str.{cons_from_encodes, IsCharBoundary-at_seam, encodes-append, encodes-chars, length-le-encodes, chars_from_encodes, chars-IsAscii, encodes-IsAscii, IsAscii-take, IsAscii-drop}
+use Rattle.std.proofs.lemmas.List.{take_all, drop_all, take-append-drop, length-append, length-drop}
 use Rattle.std.proofs.Math.Seq.{take-append_seam}
 
 -- a text is the text of its first n scalars and that of the others
@@ -73,3 +73,17 @@ half_cut n s back u ub is =
     let l = length-append front back in
     let e : length front ≡ length s - length back = let a = ap length h in omega arith in
     subst (IsCharBoundary s) e (IsCharBoundary-at_seam s front back h ub)
+
+-- ---- where each scalar is a byte
+
+pub ascii_cut : (n m : ℕ) (s : List ℕ) → IsAscii s → take m (drop n s) ≡ encode_utf8_all (take m (drop n (chars s)))
+ascii_cut n m s ascii =
+    sym (encodes-IsAscii (take m (drop n s)) (IsAscii-take (drop n s) m (IsAscii-drop s n ascii))) ∙ ap (λ cs. encode_utf8_all (take m (drop n cs))) (sym (chars-IsAscii s ascii))
+
+-- what is left has no more scalars than the text has bytes
+pub rest_of : (n : ℕ) (s : List ℕ) → IsUtf8 s → take (length s) (drop n (chars s)) ≡ drop n (chars s)
+rest_of n s u =
+    let a = length-drop n (chars s) in
+    let b = length-le-encodes (chars s) in
+    let e = ap length (encodes-chars s u) in
+    take_all (length s) (drop n (chars s)) (omega arith)

@@ -1,9 +1,8 @@
 -- The laws of the methods of String.
-use Rattle.std.proofs.Common.{arith, nat_le, max, le-leb, leb-true, append-nil, append_assoc, ◌≡◌, ◌+◌, ◌-◌, ◌*◌, ◌<◌, ◌≤◌, ◌&&◌, ◌↔◌, MatchOption, is_some, zero, suc, ℕ, Bool, true, false, eqb, cond, List, [], ◌∷◌, ◌++◌, length, take, drop, map, reverse, chars, codes, get_or, EachIndex, refl, sym, ap, ap₂, ◌∙◌, Option, Some, None, option_map, pos, not, inl, inr, ◌⊎◌}
+use Rattle.std.proofs.Common.{arith, nat_le, max, le-leb, leb-true, append-nil, ◌≡◌, ◌+◌, ◌-◌, ◌<◌, ◌≤◌, ◌&&◌, ◌↔◌, MatchOption, is_some, zero, suc, ℕ, Bool, true, false, eqb, cond, List, [], ◌∷◌, ◌++◌, length, take, drop, map, reverse, chars, codes, get_or, EachIndex, refl, sym, ap, ap₂, ◌∙◌, Option, Some, None, option_map, not, inl, inr, ◌⊎◌}
 use Rattle.std.specs.List.{list_all, repeat}
 use Rattle.std.specs.Char.{to_ascii_lowercase, to_ascii_uppercase, is_ascii_digit, is_whitespace}
-use Rattle.std.specs.Str.{IsUtf8, encode_utf8_all}
-use Rattle.std.proofs.lemmas.Bool.{and_parts, and_from, false_from_ne_true}
+use Rattle.std.proofs.lemmas.Bool.{and_parts, and_from}
 use Rattle.std.proofs.lemmas.Bool.Decides.{nat_tests}
 use Rattle.std.proofs.lemmas.Str.{chars-append, chars-IsAscii, IsUtf8-from_ascii}
 use Rattle.std.proofs.lemmas.Str.Ascii.{lowercase-uppercase, lowercase-lowercase}
@@ -11,7 +10,7 @@ use Rattle.std.proofs.lemmas.List.{drop_all, drop-drop, take-append-drop, length
 use Rattle.std.proofs.lemmas.List.Folds.{list_all-append}
 use Rattle.std.proofs.lemmas.List.Prefix.{front_rest, front_fits}
 use Rattle.std.proofs.Math.Seq.{take-append_seam, drop-append_seam}
-use Rattle.text_methods.specs.Texts.{part, begins, first_of, last_of, later, up_to, before, behind, after, ends, without_start, without_end, replaced, replace, counted, matches, without_low, trimmed, blanks, left_pad, right_pad, is_numeric, is_blank}
+use Rattle.text_methods.specs.Texts.{begins, first_of, last_of, later, up_to, behind, ends, replaced, counted, without_low, trimmed}
 use Rattle.text_methods.specs.Laws.{LengthAdds, PartFits, Splits, ContainsSplits, StartSplits, EndSplits, IsFirst, FirstSplits, IsLast, LastSplits, BeforeAndAfter, StartGoes, EndGoes, ReplacedByItself, ReplacedNowhere, CountedNowhere, RemovedSize, CaseFolds, AllLow, TrimsBothEnds, PadsTo, RepeatedSize, NumericIsDigits, BlankIsWhite}
 use Rattle.text_methods.proofs.Occurs.{begins_front, begins_gives, all_of}
 use Rattle.text_methods.proofs.Counts.{counted_found, counted_none, replace_none, replace_size}
@@ -161,9 +160,9 @@ end_splits ts cs = (
   λ s. ap (ends ts) s.1 ∙ (ends_with ts s.0).0,
 )
 
-round_by : (ts cs : List ℕ) (r : Option ℕ) → MatchOption r (Nowhere ts cs) (FirstAt ts cs) → MatchOption r ((up_to r cs ≡ cs) × (behind r (length ts) cs ≡ [])) (λ n. Splits cs (up_to r cs) ts (behind r (length ts) cs))
+round_by : (ts cs : List ℕ) (r : Option ℕ) → MatchOption r (Nowhere ts cs) (FirstAt ts cs) → MatchOption r ((up_to r cs ≡ cs) × (behind r (length ts) cs ≡ [])) (λ n. Splits cs (up_to r cs) ts (behind r (length ts) cs) × (length (up_to r cs) ≡ n))
 round_by ts cs None h = (refl, refl)
-round_by ts cs (Some n) h = split_at ts cs n h.here ∙ ap (λ l. take n cs ++ (ts ++ l)) (drop-drop (length ts) n cs)
+round_by ts cs (Some n) h = (split_at ts cs n h.here ∙ ap (λ l. take n cs ++ (ts ++ l)) (drop-drop (length ts) n cs), taken cs n h.within)
 
 pub before_and_after : BeforeAndAfter
 before_and_after ts cs = round_by ts cs (first_of ts cs) (first_means ts cs)

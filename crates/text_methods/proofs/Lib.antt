@@ -3,3 +3,4 @@ mod Halves
 mod Occurs
 mod Walks
 mod LawSteps
+mod LawSides

@@ -5,6 +5,7 @@ ghost use Rattle.std.specs.Prelude.{◌-◌};
 ghost use Rattle.text_methods.specs.Texts as spec;
 
 use crate::places::{behind, length, place};
+use apex_num::Text;
 
 /// What comes before the first occurrence of a text and what comes behind it. `None` exactly where it doesn't occur.
 pub fn split_first<'a>(text: &'a str, of: &str) -> Option<(&'a str, &'a str)>
@@ -48,12 +49,12 @@ pub fn first_index(text: &str, of: &str) -> Option<usize>
 
 /// `indexOf` with a place: the first place from place `n` on where a text occurs in another; a negative `n` is 0. The empty text
 /// occurs at each place up to the length.
-pub fn index_from(text: &str, of: &str, n: i64) -> Option<usize>
+pub fn index_from(text: &Text, of: &str, n: i64) -> Option<usize>
     ensures value { result ≡ spec.first_from (spec.place n) (chars of.now) (chars text.now) }
     ensures small { IfSome result (λ n. n < 2 ^ 63) }
 {
     let n = place(n);
-    if n > length(text) {
+    if n > text.length() {
         return None;
     }
     match split_first(behind(text, n), of) {

@@ -20,6 +20,3 @@ pub use letters::{
 };
 pub use places::{left, length, mid, part, part_from, right};
 pub use replaces::{count_matches, replace, replaced_size};
-
-#[cfg(test)]
-mod tests;

@@ -3,14 +3,15 @@ use Rattle.std.specs.Prelude.{◌≡◌, ℕ, List, [], ◌∷◌, Option, Some,
 use Rattle.std.proofs.Common.{inl, inr, refl, sym, subst, ap, ◌∙◌}
 use Rattle.std.proofs.lemmas.Option.{same_Some, none-some}
 use Rattle.apex_lexer.specs.declared.token.Token.{Token}
+use Rattle.apex_lexer.specs.Reading.{Shown}
 use Rattle.token_grammar.specs.declared.fault.ParseWord.{ParseWord}
 use Rattle.token_grammar.specs.declared.fault.Stop.{Stop}
 use Rattle.token_grammar.specs.declared.fault.Stop.TheVariants.{At, NoMemory}
-use Rattle.token_grammar.specs.Notation.{Rule, Give, Refuse, Here, Since, Is, Take, Then, Choose, Many, Each, Reads, Stops}
+use Rattle.token_grammar.specs.Notation.{Rule, Give, Refuse, Here, Since, Is, Take, Then, Choose, Many, Each, Reads, Stops, seen}
 use Rattle.token_grammar.specs.Readings.{Told, Found, RefusedBy, fault_of}
 
 -- the tokens at a place are one token
-same_token : (o : Option Token) (t u : Token) → o ≡ Some t → o ≡ Some u → t ≡ u
+same_token : (o : Option Shown) (t u : Shown) → o ≡ Some t → o ≡ Some u → t ≡ u
 same_token o t u e f = same_Some t u (sym e ∙ f)
 
 each_one : {A : Type 0} (begins : ℕ → Type 0) (reads : ℕ → A → ℕ → Type 0)
@@ -25,7 +26,7 @@ each_one begins reads one at (x ∷ xs) (y ∷ ys) m n (h0, (p, h1, h2)) a (k0, 
     (ap (λ z. z ∷ xs) e.0 ∙ ap (λ z. y ∷ z) f.0, f.1)
 
 -- what is read is unique
-pub reads_one : (tokens : List Token) {A : Type 0} (r : Rule A) (at : ℕ) (x y : A) (m n : ℕ) → Reads tokens r at x m → Reads tokens r at y n → (x ≡ y) × (m ≡ n)
+pub reads_one : (tokens : List Shown) {A : Type 0} (r : Rule A) (at : ℕ) (x y : A) (m n : ℕ) → Reads tokens r at x m → Reads tokens r at y n → (x ≡ y) × (m ≡ n)
 reads_one tokens (Give z) at x y m n h k = (h.0 ∙ sym k.0, h.1 ∙ sym k.1)
 reads_one tokens (Refuse w p) at x y m n h k = absurd h
 reads_one tokens Here at x y m n h k = (h.0 ∙ sym k.0, h.1 ∙ sym k.1)
@@ -55,7 +56,7 @@ each_apart begins reads stops one off at (x ∷ xs) (y ∷ ys) m n (h0, (p, h1, 
     each_apart begins reads stops one off p xs ys m n h2 a (subst (λ z. Each begins reads z ys n) (sym e.1) k2) b s
 
 -- where something is read, the reading doesn't stop
-pub apart : (tokens : List Token) {A : Type 0} (r : Rule A) (at : ℕ) (x : A) (m : ℕ) (w : ParseWord) (p : ℕ) → Reads tokens r at x m → Stops tokens r at w p → ⊥
+pub apart : (tokens : List Shown) {A : Type 0} (r : Rule A) (at : ℕ) (x : A) (m : ℕ) (w : ParseWord) (p : ℕ) → Reads tokens r at x m → Stops tokens r at w p → ⊥
 apart tokens (Give z) at x m w p h k = k
 apart tokens (Refuse v q) at x m w p h k = h
 apart tokens Here at x m w p h k = k
@@ -87,7 +88,7 @@ each_stop begins reads s s' one off off' at (x ∷ xs) (y ∷ ys) m n (h0, (p, h
     each_stop begins reads s s' one off off' p xs ys m n h2 a (subst (λ z. Each begins reads z ys n) (sym e.1) k2) b
 
 -- a reading stops once
-pub stops_one : (tokens : List Token) {A : Type 0} (r : Rule A) (at : ℕ) (w v : ParseWord) (p q : ℕ) → Stops tokens r at w p → Stops tokens r at v q → (w ≡ v) × (p ≡ q)
+pub stops_one : (tokens : List Shown) {A : Type 0} (r : Rule A) (at : ℕ) (w v : ParseWord) (p q : ℕ) → Stops tokens r at w p → Stops tokens r at v q → (w ≡ v) × (p ≡ q)
 stops_one tokens (Give z) at w v p q h k = absurd h
 stops_one tokens (Refuse u r) at w v p q h k = (h.0 ∙ sym k.0, h.1 ∙ sym k.1)
 stops_one tokens Here at w v p q h k = absurd h
@@ -113,8 +114,8 @@ stops_one tokens (Many test item) at w v p q (xs, m, h, t, s) (ys, n, k, u, z) =
 pub found : {tokens : List Token} {A : Type 0} {r : Rule A} {at end : ℕ} {x : A} → Told tokens r at (Ok (x, end)) → Found tokens r at x end
 found {tokens = tokens} {r = r} {at = at} {end = end} {x = x} h = record {
   reads = h.by;
-  only = λ y n k. reads_one tokens r at y x n end k h.by;
-  unstopped = λ w p k. apart tokens r at x end w p h.by k;
+  only = λ y n k. reads_one (seen tokens) r at y x n end k h.by;
+  unstopped = λ w p k. apart (seen tokens) r at x end w p h.by k;
 }
 
 refused_by : (tokens : List Token) {A : Type 0} (r : Rule A) (at : ℕ) (e : Stop) → Told tokens r at (Err e) → RefusedBy tokens r at (fault_of tokens e)
@@ -122,8 +123,8 @@ refused_by tokens r at (At w p) h = record {
   place = p;
   stops = h.by;
   is_span = refl;
-  only = λ v q k. stops_one tokens r at v w q p k h.by;
-  none = λ x m k. apart tokens r at x m w p k h.by;
+  only = λ v q k. stops_one (seen tokens) r at v w q p k h.by;
+  none = λ x m k. apart (seen tokens) r at x m w p k h.by;
 }
 refused_by tokens r at NoMemory h = tt
 

@@ -2,7 +2,7 @@
 use Rattle.std.specs.Prelude.{◌≡◌, ℕ, zero, suc, Bool, true, false, Option, Some, None, cond}
 use Rattle.apex_text.specs.Fold.{folded}
 use Rattle.apex_syntax.specs.declared.word.Word.{Word}
-use Rattle.apex_lexer.specs.declared.token.Token.{Token}
+use Rattle.apex_lexer.specs.Reading.{Shown}
 use Rattle.apex_lexer.specs.declared.token.Keyword.{Keyword}
 use Rattle.apex_lexer.specs.declared.token.Reserved.{Reserved}
 use Rattle.apex_lexer.specs.declared.token.Reserved.TheVariants.{Everywhere, InQuery, Nowhere}
@@ -14,7 +14,7 @@ use Rattle.token_grammar.specs.declared.read.Names.{Names}
 use Rattle.token_grammar.specs.declared.read.Names.TheVariants.{InQuery as InQueryNames, InCode as CodeNames, AllWords}
 use Rattle.token_grammar.specs.declared.fault.ParseWord.{ParseWord}
 use Rattle.token_grammar.specs.declared.fault.ParseWord.TheVariants.{TooDeep}
-use Rattle.token_grammar.specs.Notation.{Rule, Give, Refuse, Here, Is, Take, Then, Choose, Many, Test, kind_at}
+use Rattle.token_grammar.specs.Notation.{Rule, Give, Refuse, Here, Is, Take, Then, Choose, Many, Test, span, kind_at}
 
 abbrev pub sign : Sign → Rule (Unit {0})
 sign s = Is (IsSign s)
@@ -74,10 +74,10 @@ is_name names Name = true
 is_name names (IsKeyword k) = may_be names (reserved k)
 is_name names _ = false
 
-abbrev pub named : Token → Word
-named t = record { span = t.span; name = folded t.text.now }
+abbrev pub named : Shown → Word
+named t = record { span = span t; name = folded t.bytes }
 
-abbrev pub name_of : Names → Token → Option Word
+abbrev pub name_of : Names → Shown → Option Word
 name_of names t = cond (is_name names t.kind) (Some (named t)) None
 
 abbrev pub name : Names → Rule Word

@@ -4,10 +4,12 @@
 //! reading stops, is said once for the notation, by cases; so are the laws that the tree and the stop are unique.
 #![tactic(auto)]
 
+mod boxes;
 mod fault;
 mod literal;
 mod read;
 
+pub use boxes::{add, boxed};
 pub use fault::{ParseFault, ParseWord, Stop};
 pub use literal::literal_bytes;
 pub use read::{

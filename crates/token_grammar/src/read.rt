@@ -1,8 +1,9 @@
 // Readings of one token.
 
-ghost use Rattle.std.specs.Prelude.{◌≡◌, ◌↔◌, ◌<◌, length, slice_get, suc, OnSome, IfOk, IfErr, IsTrue, MatchBool};
+ghost use Rattle.std.specs.Prelude.{◌≡◌, ◌↔◌, ◌<◌, length, slice_get, option_map, suc, OnSome, IfOk, IfErr, IsTrue, MatchBool};
 ghost use Rattle.std.specs.Option.{option_copied};
 ghost use Rattle.apex_lexer.specs.declared.token.TokenKind.TheVariants.{Sign as IsSign, Keyword as IsWord};
+ghost use Rattle.apex_lexer.specs.Reading.{shown};
 ghost use Rattle.token_grammar.specs.Notation as notation;
 ghost use Rattle.token_grammar.specs.Readings.{Told, Passed, IsNoMemory, fault_of};
 ghost use Rattle.token_grammar.specs.Tokens as grammar;
@@ -26,7 +27,7 @@ pub enum Names {
 
 /// The token at a place, and none behind the last one.
 pub fn token_at<'a, 'b>(tokens: &'a [Token<'b>], at: usize) -> Option<&'a Token<'b>>
-    ensures token { option_copied result ≡ slice_get tokens.now at }
+    ensures token { option_map shown (option_copied result) ≡ slice_get (notation.seen tokens.now) at }
     ensures within { OnSome result (at < length tokens.now) }
 {
     tokens.get(at)
@@ -34,7 +35,7 @@ pub fn token_at<'a, 'b>(tokens: &'a [Token<'b>], at: usize) -> Option<&'a Token<
 
 /// What the token at a place says; behind the last one is the end.
 pub fn kind_at(tokens: &[Token], at: usize) -> TokenKind
-    ensures { result ≡ notation.kind_at tokens.now at }
+    ensures { result ≡ notation.kind_at (notation.seen tokens.now) at }
 {
     match token_at(tokens, at) {
         Some(token) => token.kind,
@@ -44,7 +45,7 @@ pub fn kind_at(tokens: &[Token], at: usize) -> TokenKind
 
 /// The bytes from the token at one place up to the token before another.
 pub fn span_of(tokens: &[Token], from: usize, to: usize) -> Span
-    ensures { result ≡ notation.span_of tokens.now from to }
+    ensures { result ≡ notation.span_of (notation.seen tokens.now) from to }
 {
     let begin = match token_at(tokens, from) {
         Some(token) => token.span.from,
@@ -62,7 +63,7 @@ pub fn span_of(tokens: &[Token], from: usize, to: usize) -> Span
 
 // The bytes of one token.
 fn span_at(tokens: &[Token], at: usize) -> Span
-    ensures { result ≡ notation.span_at tokens.now at }
+    ensures { result ≡ notation.span_at (notation.seen tokens.now) at }
 {
     match token_at(tokens, at) {
         Some(token) => token.span,
@@ -86,7 +87,7 @@ fn same_word(a: Keyword, b: Keyword) -> bool
 
 /// Whether the token at a place is this sign.
 pub fn is_sign(tokens: &[Token], at: usize, sign: Sign) -> bool
-    ensures { MatchBool result (grammar.next_sign sign tokens.now at) (grammar.next_sign sign tokens.now at → ⊥) }
+    ensures { MatchBool result (grammar.next_sign sign (notation.seen tokens.now) at) (grammar.next_sign sign (notation.seen tokens.now) at → ⊥) }
 {
     match kind_at(tokens, at) {
         TokenKind::Sign(other) => same_sign(other, sign),
@@ -96,7 +97,7 @@ pub fn is_sign(tokens: &[Token], at: usize, sign: Sign) -> bool
 
 /// Whether the token at a place is this keyword.
 pub fn is_word(tokens: &[Token], at: usize, word: Keyword) -> bool
-    ensures { MatchBool result (grammar.next_word word tokens.now at) (grammar.next_word word tokens.now at → ⊥) }
+    ensures { MatchBool result (grammar.next_word word (notation.seen tokens.now) at) (grammar.next_word word (notation.seen tokens.now) at → ⊥) }
 {
     match kind_at(tokens, at) {
         TokenKind::Keyword(other) => same_word(other, word),

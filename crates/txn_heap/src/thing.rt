@@ -12,7 +12,7 @@ pub struct Ref {
 }
 
 /// What an expression gives and a variable has.
-#[derive(Debug, Drop)]
+#[derive(Drop)]
 pub enum Value {
     /// A primitive value or null.
     Plain(Cell),
@@ -21,14 +21,14 @@ pub enum Value {
 }
 
 /// A record in memory: its object, and for each field the cell that it knows.
-#[derive(Debug, Drop)]
+#[derive(Drop)]
 pub struct Record {
     pub object: usize,
     pub cells: Items<Option<Cell>>,
 }
 
 /// A thing that a transaction made.
-#[derive(Debug, Drop)]
+#[derive(Drop)]
 pub enum Thing {
     Record(Record),
     List(Items<Value>),

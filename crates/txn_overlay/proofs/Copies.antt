@@ -6,10 +6,10 @@ use Rattle.std.specs.Map.{keys_of}
 use Rattle.std.specs.Ordering.{ordering_reverse}
 use Rattle.std.specs.declared.cmp.Ordering.TheVariants.{Less, Greater}
 use Rattle.std.proofs.lemmas.Cmp.{nat_list_cmp_total}
-use Rattle.apex_schema.specs.Cells.{bytes_cmp}
-use Rattle.apex_schema.specs.Overlays.{Overlay}
-use Rattle.apex_schema.specs.Overlays as O
-use Rattle.apex_schema.specs.declared.row.Row.{Row}
+use Rattle.row_meaning.specs.Cells.{bytes_cmp}
+use Rattle.row_meaning.specs.Overlays.{Overlay}
+use Rattle.row_meaning.specs.Overlays as O
+use Rattle.apex_rows.specs.declared.row.Row.{Row}
 use Rattle.txn_overlay.specs.declared.overlay.Change.{Change}
 use Rattle.txn_overlay.specs.declared.overlay.Change.TheVariants.{Now, Gone}
 use Rattle.txn_overlay.specs.Changes.{shown, plain, KeyFits, AllFit, changed, changed_by}

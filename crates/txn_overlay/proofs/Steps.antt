@@ -17,10 +17,10 @@ use Rattle.std.proofs.lemmas.Map.Text.{is_eq-slice_cmp}
 use Rattle.std.specs.Cmp.{both_ways}
 use Rattle.std.specs.FinMap.{slice_cmp-IsAntisymmetric, nat_cmp-IsAntisymmetric}
 use Rattle.std.proofs.lemmas.Slice.Eq.{bytes_eq-Decides}
-use Rattle.apex_schema.specs.declared.row.Row.{Row}
-use Rattle.apex_schema.specs.Cells.{bytes_cmp}
-use Rattle.apex_schema.specs.Stores.{has_id, of_object, put_all, without}
-use Rattle.apex_schema.specs.Overlays.{Overlay, touched_ids, overlay_rows, row_of, merged}
+use Rattle.apex_rows.specs.declared.row.Row.{Row}
+use Rattle.row_meaning.specs.Cells.{bytes_cmp}
+use Rattle.row_meaning.specs.Stores.{has_id, of_object, put_all, without}
+use Rattle.row_meaning.specs.Overlays.{Overlay, touched_ids, overlay_rows, row_of, merged}
 use Rattle.txn_overlay.specs.declared.overlay.Change.{Change}
 use Rattle.txn_overlay.specs.declared.overlay.Change.TheVariants.{Now, Gone}
 use Rattle.txn_overlay.specs.Changes.{shown, plain, KeyFits, AllFit, changed, changed_by}

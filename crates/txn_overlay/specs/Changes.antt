@@ -4,10 +4,10 @@ use Rattle.std.specs.List.Sorted.{IsStrictlySortedBy}
 use Rattle.std.specs.Map.{keys_of}
 use Rattle.std.specs.declared.cmp.Ordering.{Ordering}
 use Rattle.std.specs.declared.cmp.Ordering.TheVariants.{Less, Equal, Greater}
-use Rattle.apex_schema.specs.declared.row.Writes.{Writes}
-use Rattle.apex_schema.specs.Cells.{bytes_cmp}
-use Rattle.apex_schema.specs.Overlays as O
-use Rattle.apex_schema.specs.Overlays.{Overlay, overlay_rows}
+use Rattle.apex_rows.specs.declared.row.Writes.{Writes}
+use Rattle.row_meaning.specs.Cells.{bytes_cmp}
+use Rattle.row_meaning.specs.Overlays as O
+use Rattle.row_meaning.specs.Overlays.{Overlay, overlay_rows}
 use Rattle.record_ids.specs.Ids.{is_minted_by}
 use Rattle.txn_overlay.specs.declared.overlay.Change.{Change}
 use Rattle.txn_overlay.specs.declared.overlay.Change.TheVariants.{Now, Gone}

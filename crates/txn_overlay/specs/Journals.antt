@@ -1,6 +1,6 @@
 -- An overlay, and what it was where each statement began that is going on (docs/platform.md, "Overlays").
 use Rattle.std.specs.Prelude.{List, [], ◌∷◌, drop}
-use Rattle.apex_schema.specs.Overlays.{Overlay}
+use Rattle.row_meaning.specs.Overlays.{Overlay}
 
 -- the innermost statement first
 pub record Layers : Type 0 where

@@ -2,8 +2,8 @@
 use Rattle.std.specs.Prelude.{List, [], ◌∷◌, Option, None, Some}
 use Rattle.std.specs.declared.cmp.Ordering.{Ordering}
 use Rattle.std.specs.declared.cmp.Ordering.TheVariants.{Less, Equal, Greater}
-use Rattle.apex_schema.specs.declared.row.Row.{Row}
-use Rattle.apex_schema.specs.Cells.{bytes_cmp}
+use Rattle.apex_rows.specs.declared.row.Row.{Row}
+use Rattle.row_meaning.specs.Cells.{bytes_cmp}
 
 -- whichever comes next; of two with one Id, that of the first list
 abbrev pub next_of : Ordering → Row → Row → List Row → List Row → List Row → List Row

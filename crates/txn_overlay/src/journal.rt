@@ -1,14 +1,14 @@
 // An overlay that can go back.
 
 ghost use Rattle.std.specs.Prelude.{◌≡◌, [], ◌∷◌, OnOk, OnErr};
-ghost use Rattle.apex_schema.specs.Overlays.Change.{Now as NowIs};
+ghost use Rattle.row_meaning.specs.Overlays.Change.{Now as NowIs};
 ghost use Rattle.txn_overlay.specs.Changes.{changed};
 ghost use Rattle.txn_overlay.specs.Journals.{Layers, kept, undone};
 
 use crate::overlay::Overlay;
 use apex_list::Stack;
 use apex_num::NoMemory;
-use apex_schema::Row;
+use apex_rows::Row;
 use std::alloc::Global;
 use std::marker::Model;
 

@@ -1,12 +1,12 @@
 // Two lists of rows in the order of their Ids, as one.
 
 ghost use Rattle.std.specs.Prelude.{◌≡◌, ◌∷◌, ◌++◌, IfOk};
-ghost use Rattle.apex_schema.specs.Cells.{bytes_cmp};
+ghost use Rattle.row_meaning.specs.Cells.{bytes_cmp};
 ghost use Rattle.txn_overlay.specs.Merging.{merge};
 
 use apex_list::Stack;
 use apex_num::NoMemory;
-use apex_schema::Row;
+use apex_rows::Row;
 use std::alloc::Global;
 use std::cmp::Ordering;
 

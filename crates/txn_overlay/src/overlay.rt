@@ -1,23 +1,24 @@
 // Changes by Id.
 
 ghost use Rattle.std.specs.Prelude.{◌≡◌, [], ◌<◌, ◌^◌, suc, OnOk, OnErr, IfOk};
-ghost use Rattle.apex_schema.specs.Overlays.{touched_ids, overlay_rows, merged};
-ghost use Rattle.apex_schema.specs.Overlays.Change.{Now as NowIs, Gone as GoneIs};
-ghost use Rattle.apex_schema.specs.Stores.{has_id, of_object, without};
+ghost use Rattle.row_meaning.specs.Overlays.{touched_ids, overlay_rows, merged};
+ghost use Rattle.row_meaning.specs.Overlays.Change.{Now as NowIs, Gone as GoneIs};
+ghost use Rattle.row_meaning.specs.Stores.{has_id, of_object, without};
 ghost use Rattle.record_ids.specs.Ids.{most};
 ghost use Rattle.txn_overlay.specs.Changes.{changed, writes_of};
 
 use crate::merge::merge_rows;
 use apex_list::Items;
 use apex_num::{Id, NoMemory};
-use apex_schema::{Row, Ticket, Writes};
+use apex_requests::Ticket;
+use apex_rows::{Row, Writes};
 use record_ids::is_minted_by;
 use std::alloc::{AllocError, Global};
 use std::collections::BTreeMap;
 use std::marker::Model;
 
 /// What a transaction did to an Id: it wrote its row, or removed it.
-#[derive(Debug, Drop)]
+#[derive(Drop)]
 pub enum Change {
     Now(Row),
     Gone,
@@ -31,7 +32,7 @@ pub struct Overlay {
 }
 
 impl Model for Overlay {
-    ghost use Rattle.apex_schema.specs.Overlays.{Overlay};
+    ghost use Rattle.row_meaning.specs.Overlays.{Overlay};
     ghost use Rattle.txn_overlay.specs.Changes.{IsKeyed, plain};
 
     ghost Value = { Overlay };

@@ -1,7 +1,7 @@
 -- Which type a tree names (docs/language.md, "Types").
 use Rattle.std.specs.Prelude.{ℕ, zero, suc, cond, List, [], ◌∷◌, codes, bytes_eq, option_map, Option, None, Some}
-use Rattle.apex_schema.specs.Names.{place_of}
-use Rattle.apex_schema.specs.declared.reply.FaultWord.TheVariants.{UnknownType, DoubleRefused, WrongType}
+use Rattle.schema_names.specs.Names.{place_of}
+use Rattle.fault_words.specs.declared.fault.FaultWord.TheVariants.{UnknownType, DoubleRefused, WrongType}
 use Rattle.apex_syntax.specs.declared.expr.TypeTree.{TypeTree}
 use Rattle.apex_syntax.specs.declared.expr.TypeTree.TheOpen.{TypeTree-F}
 use Rattle.apex_syntax.specs.declared.expr.TypeTree.TheFolds.{fold-TypeTree}

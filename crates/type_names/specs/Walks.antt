@@ -1,6 +1,6 @@
 -- Walks over trees (docs/language.md, "The checker's walk"): what a part of a tree comes to, or the first fault on the way.
 use Rattle.std.specs.Prelude.{◌≡◌, ℕ, List, [], ◌∷◌, Result, Ok, Err, ⊤}
-use Rattle.apex_schema.specs.declared.reply.FaultWord.{FaultWord}
+use Rattle.fault_words.specs.declared.fault.FaultWord.{FaultWord}
 use Rattle.type_names.specs.declared.fault.TreeFault.{TreeFault}
 use Rattle.type_names.specs.declared.fault.WalkFault.{WalkFault}
 use Rattle.type_names.specs.declared.fault.WalkFault.TheVariants as Fault

@@ -2,12 +2,12 @@
 
 ghost use Rattle.std.specs.Prelude.{◌≡◌};
 
-use apex_schema::FaultWord;
+use fault_words::FaultWord;
 use std::alloc::AllocError;
 use thiserror::Error;
 
 /// A fault of a tree.
-#[derive(Clone, Copy, Debug, PartialEq, Eq, Hash, Drop)]
+#[derive(Clone, Copy, Debug, PartialEq, Eq, Drop)]
 pub struct TreeFault {
     pub word: FaultWord,
     /// The byte place in the text where its first token begins, from 0.
@@ -24,7 +24,7 @@ impl TreeFault {
 }
 
 /// Why a walk over a tree came to no end.
-#[derive(Clone, Copy, Debug, PartialEq, Eq, Hash, Drop, Error)]
+#[derive(Clone, Copy, Debug, PartialEq, Eq, Drop, Error)]
 pub enum WalkFault {
     /// The first fault.
     #[error("a tree has a fault")]

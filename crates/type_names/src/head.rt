@@ -6,13 +6,13 @@ ghost use Rattle.type_names.specs.Walks.{Tells};
 
 use crate::fault::TreeFault;
 use crate::names::TypeNames;
-use apex_schema::FaultWord;
 use apex_syntax::Word;
 use apex_text::Name;
+use fault_words::FaultWord;
 use static_types::{PlatformType, TypeName, platform_type, type_name};
 
 /// What the name of a type says, whatever stands behind it in `<` and `>`.
-#[derive(Clone, Copy, Debug, Drop)]
+#[derive(Clone, Copy, Drop)]
 pub enum TypeHead {
     Named(TypeName),
     Platform(PlatformType),

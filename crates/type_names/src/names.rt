@@ -8,9 +8,10 @@ use crate::fault::{TreeFault, WalkFault};
 use crate::head::{TypeHead, head_of};
 use apex_list::{Boxed, Items};
 use apex_num::NoMemory;
-use apex_schema::{FaultWord, Places};
 use apex_syntax::{TypeTree, Word};
 use apex_text::Name;
+use fault_words::FaultWord;
+use schema_names::Places;
 use static_types::{PlatformType, Primitive, TypeName, ValueType};
 use std::alloc::Global;
 

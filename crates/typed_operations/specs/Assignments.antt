@@ -1,22 +1,20 @@
 -- Assignments (docs/language.md, "Operators").
-use Rattle.std.specs.Prelude.{List, Option, None, Some}
-use Rattle.apex_schema.specs.declared.reply.FaultWord.TheVariants.{WrongType}
+use Rattle.std.specs.Prelude.{ℕ, List, Option, None, Some}
+use Rattle.fault_words.specs.declared.fault.FaultWord.TheVariants.{WrongType}
 use Rattle.apex_syntax.specs.declared.expr.BinaryOp.{BinaryOp}
-use Rattle.class_heads.specs.declared.head.ClassHead.{ClassHead}
-use Rattle.operator_types.specs.declared.judgement.Fit.{Fit}
-use Rattle.operator_types.specs.declared.judgement.Judged.{Judged}
-use Rattle.operator_types.specs.declared.judgement.Judged.TheVariants.{Left, Right, Fits}
-use Rattle.operator_types.specs.Judgements.{judge}
+use Rattle.class_tables.specs.declared.head.ClassHead.{ClassHead}
+use Rattle.typed_operations.specs.declared.judgement.Fit.{Fit}
 use Rattle.type_names.specs.Walks.{Walk, Gives, wrong, onward}
-use Rattle.typed_trees.specs.declared.expr.Conversion.{Conversion}
-use Rattle.typed_trees.specs.declared.expr.Conversion.TheVariants.{Same}
-use Rattle.typed_trees.specs.declared.expr.TypedExpr.{TypedExpr}
-use Rattle.typed_trees.specs.declared.expr.TypedExpr.TheVariants.{Assign, AssignWith}
+use Rattle.typed_program.specs.declared.expr.Assignment.{Assignment}
+use Rattle.typed_program.specs.declared.expr.Conversion.{Conversion}
+use Rattle.typed_program.specs.declared.expr.Conversion.TheVariants.{Same}
+use Rattle.typed_program.specs.declared.expr.TypedExpr.{TypedExpr}
+use Rattle.typed_program.specs.declared.expr.TypedExpr.TheVariants.{Assign, AssignWith}
 use Rattle.typed_values.specs.declared.typed.Kind.{Kind}
 use Rattle.typed_values.specs.declared.typed.Kind.TheVariants.{Nothing, Is}
 use Rattle.typed_values.specs.declared.typed.Typed.{Typed}
 use Rattle.typed_values.specs.Fits.{plain, conversion, converted, stored}
-use Rattle.typed_operations.specs.Chains.{given}
+use Rattle.typed_operations.specs.Chains.{given, fit_at}
 
 abbrev pub any_kind : Kind → Typed → Walk TypedExpr
 any_kind Nothing value = wrong WrongType value.at
@@ -38,18 +36,22 @@ abbrev pub back : List ClassHead → Kind → Kind → Option Conversion
 back heads kind (Is to) = conversion heads kind to
 back heads kind target = Some Same
 
-abbrev pub with_fit : Typed → Fit → Conversion → TypedExpr → Typed
-with_fit target fit how value = plain target.at target.kind (AssignWith target.tree (record { left = fit.left; op = fit.op; back = how }) (converted fit.right value))
+abbrev pub back_or : Option Conversion → Fit → ℕ → Walk Assignment
+back_or (Some how) fit at = Gives (record { left = fit.left; op = fit.op; back = how })
+back_or None fit at = wrong WrongType at
 
-abbrev pub back_or : Option Conversion → Typed → Fit → Typed → Walk Typed
-back_or (Some how) target fit value = Gives (with_fit target fit how value.tree)
-back_or None target fit value = wrong WrongType value.at
+abbrev pub back_at : List ClassHead → Fit → Kind → ℕ → Walk Assignment
+back_at heads fit target at = back_or (back heads (given fit.gives) target) fit at
 
 -- the target is the left operand, and what the operator gives becomes its value
-abbrev pub fits_with : List ClassHead → Judged → Typed → Typed → Walk Typed
-fits_with heads Left target value = wrong WrongType target.at
-fits_with heads Right target value = wrong WrongType value.at
-fits_with heads (Fits fit) target value = back_or (back heads (given fit.gives) target.kind) target fit value
+abbrev pub fitting : List ClassHead → Typed → BinaryOp → Typed → Walk (Assignment × Conversion)
+fitting heads target op value =
+    onward (fit_at heads target.kind target.at op value) (λ fit.
+    onward (back_at heads fit target.kind value.at) (λ how. Gives (how, fit.right)))
+
+abbrev pub with_fit : Typed → Assignment → Conversion → TypedExpr → Typed
+with_fit target how right value = plain target.at target.kind (AssignWith target.tree how (converted right value))
 
 abbrev pub assigned_with : List ClassHead → Typed → BinaryOp → Typed → Walk Typed
-assigned_with heads target op value = fits_with heads (judge heads target.kind op value.kind) target value
+assigned_with heads target op value =
+    onward (fitting heads target op value) (λ r. Gives (with_fit target r.0 r.1 value.tree))

@@ -1,18 +1,17 @@
 -- Prefix operators, `++` and `--` (docs/language.md, "Operators").
 use Rattle.std.specs.Prelude.{ℕ, List, Option, None, Some}
-use Rattle.apex_schema.specs.declared.reply.FaultWord.TheVariants.{WrongType, NotWritable}
-use Rattle.class_heads.specs.declared.head.ClassHead.{ClassHead}
-use Rattle.class_heads.specs.Headers.{Nothing as Done}
-use Rattle.operator_types.specs.declared.sort.Sort.{Sort}
-use Rattle.operator_types.specs.declared.sort.Sort.TheVariants as S
-use Rattle.operator_types.specs.Sorts.{sort_of, number_of}
+use Rattle.fault_words.specs.declared.fault.FaultWord.TheVariants.{WrongType, NotWritable}
+use Rattle.class_tables.specs.declared.head.ClassHead.{ClassHead}
+use Rattle.typed_operations.specs.declared.sort.Sort.{Sort}
+use Rattle.typed_operations.specs.declared.sort.Sort.TheVariants as S
+use Rattle.typed_operations.specs.Sorts.{sort_of, number_of}
 use Rattle.static_types.specs.declared.kind.Primitive.TheVariants as P
 use Rattle.static_types.specs.declared.kind.ValueType.TheVariants as V
 use Rattle.type_names.specs.Walks.{Walk, Gives, wrong, onward}
-use Rattle.typed_trees.specs.declared.expr.Number.{Number}
-use Rattle.typed_trees.specs.declared.expr.Number.TheVariants as N
-use Rattle.typed_trees.specs.declared.expr.StepKind.{StepKind}
-use Rattle.typed_trees.specs.declared.expr.TypedExpr.TheVariants.{Not, Minus, Step}
+use Rattle.typed_program.specs.declared.expr.Number.{Number}
+use Rattle.typed_program.specs.declared.expr.Number.TheVariants as N
+use Rattle.typed_program.specs.declared.expr.StepKind.{StepKind}
+use Rattle.typed_program.specs.declared.expr.TypedExpr.TheVariants.{Not, Minus, Step}
 use Rattle.typed_values.specs.declared.typed.Kind.{Kind}
 use Rattle.typed_values.specs.declared.typed.Kind.TheVariants.{Null, Is}
 use Rattle.typed_values.specs.declared.typed.Role.{Role}
@@ -46,12 +45,15 @@ abbrev pub opposite : ℕ → Typed → Walk Typed
 opposite at value =
     onward (number value) (λ n. Gives (record { at = at; kind = settled value.kind; role = Plain; tree = Minus n value.tree }))
 
+abbrev pub Nothing : Type 0
+Nothing = Unit {0}
+
 -- only a variable may be assigned to
-abbrev pub may_write : Role → ℕ → Walk Done
+abbrev pub may_write : Role → ℕ → Walk Nothing
 may_write Variable at = Gives tt
 may_write _ at = wrong NotWritable at
 
-abbrev pub writable : Typed → Walk Done
+abbrev pub writable : Typed → Walk Nothing
 writable target = may_write target.role target.at
 
 -- that it is no number is told before that it is no variable

@@ -1,19 +1,19 @@
 // Assignments.
 
 ghost use Rattle.std.specs.Prelude.{◌≡◌, IfOk};
-ghost use Rattle.type_names.specs.Walks.{Comes, Tells};
+ghost use Rattle.type_names.specs.Walks.{Comes, Gives, Tells};
 ghost use Rattle.typed_operations.specs.Assignments as spec;
 
-use crate::chain::given;
+use crate::Fit;
+use crate::chain::{fit_at, given};
 use apex_list::Boxed;
 use apex_num::NoMemory;
-use apex_schema::FaultWord;
 use apex_syntax::BinaryOp;
-use class_heads::ClassHeads;
-use operator_types::{Fit, Judged, judge};
+use class_tables::ClassHeads;
+use fault_words::FaultWord;
 use std::alloc::Global;
 use type_names::{TreeFault, WalkFault};
-use typed_trees::{Assignment, Conversion, TypedExpr};
+use typed_program::{Assignment, Conversion, TypedExpr};
 use typed_values::{Kind, Typed, conversion, converted, stored};
 
 // A value that is stored in a variable whose type is at fault elsewhere.
@@ -65,23 +65,44 @@ fn back(lines: &ClassHeads, kind: &Kind, target: &Kind) -> Option<Conversion>
     }
 }
 
+fn back_at(lines: &ClassHeads, fit: Fit, target: &Kind, at: usize) -> Result<Assignment, TreeFault>
+    ensures { Tells (spec.back_at lines.now.heads fit target.now at) result }
+{
+    match back(lines, &given(fit.gives), target) {
+        Some(back) => Ok(Assignment {
+            left: fit.left,
+            op: fit.op,
+            back,
+        }),
+        None => Err(TreeFault::new(FaultWord::WrongType, at)),
+    }
+}
+
+fn fitting(
+    lines: &ClassHeads,
+    target: &Typed,
+    op: BinaryOp,
+    value: &Typed,
+) -> Result<(Assignment, Conversion), TreeFault>
+    ensures { Tells (spec.fitting lines.now.heads target.now op value.now) result }
+{
+    let fit = fit_at(lines, &target.kind, target.at, op, value)?;
+    let how = back_at(lines, fit, &target.kind, value.at)?;
+    Ok((how, fit.right))
+}
+
 fn with_fit(
     alloc: Global,
     target: Typed,
-    fit: Fit,
-    back: Conversion,
+    how: Assignment,
+    right: Conversion,
     value: Boxed<TypedExpr>,
-) -> Result<Typed, NoMemory>
-    ensures { IfOk result (λ t. t ≡ spec.with_fit target fit back value) }
+) -> Result<Typed, WalkFault>
+    ensures { Comes (Gives (spec.with_fit target how right value)) result }
 {
-    let value = converted(alloc, fit.right, value)?;
-    let how = Assignment {
-        left: fit.left,
-        op: fit.op,
-        back,
-    };
+    let value = converted(alloc, right, value)?;
     let tree = TypedExpr::AssignWith(target.tree, how, value);
-    Typed::plain(alloc, target.at, target.kind, tree)
+    Ok(Typed::plain(alloc, target.at, target.kind, tree)?)
 }
 
 /// `target op= value`, where the target may be assigned to. `WrongType` at the target where the operator doesn't take it
@@ -95,12 +116,6 @@ pub fn assigned_with(
 ) -> Result<Typed, WalkFault>
     ensures { Comes (spec.assigned_with lines.now.heads target op value) result }
 {
-    match judge(lines, &target.kind, op, &value.kind) {
-        Judged::Left => Err(TreeFault::new(FaultWord::WrongType, target.at).into()),
-        Judged::Right => Err(TreeFault::new(FaultWord::WrongType, value.at).into()),
-        Judged::Fits(fit) => match back(lines, &given(fit.gives), &target.kind) {
-            Some(back) => Ok(with_fit(alloc, target, fit, back, value.tree)?),
-            None => Err(TreeFault::new(FaultWord::WrongType, value.at).into()),
-        },
-    }
+    let (how, right) = fitting(lines, &target, op, &value)?;
+    with_fit(alloc, target, how, right, value.tree)
 }

@@ -1,22 +1,23 @@
 // Casts.
 
-ghost use Rattle.std.specs.Prelude.{◌≡◌};
+ghost use Rattle.std.specs.Prelude.{◌≡◌, IfOk};
 ghost use Rattle.static_types.specs.declared.kind.ValueType.TheViews.{out-ValueType};
-ghost use Rattle.type_names.specs.Walks.{Comes};
+ghost use Rattle.type_names.specs.Walks.{Comes, Gives, Tells};
 ghost use Rattle.typed_operations.specs.Casts as spec;
 
 use apex_list::Boxed;
-use apex_schema::FaultWord;
+use apex_num::NoMemory;
 use builtin_table::ExceptionClass;
-use class_heads::ClassHeads;
+use class_tables::ClassHeads;
+use fault_words::FaultWord;
 use static_types::ValueType;
 use std::alloc::Global;
 use type_names::{TreeFault, WalkFault};
-use typed_trees::TypedExpr;
+use typed_program::{Conversion, TypedExpr};
 use typed_values::{Kind, Role, Typed, conversion, converted};
 
 // What an instance has to be where a cast goes down.
-#[derive(Clone, Copy, Debug, PartialEq, Eq, Drop)]
+#[derive(Clone, Copy, Drop)]
 pub enum Down {
     Class(usize),
     Exception(ExceptionClass),
@@ -47,30 +48,63 @@ fn down_to(lines: &ClassHeads, from: &Kind, to: &ValueType) -> Option<Down>
     }
 }
 
-fn cast_down(to: Down, tree: Boxed<TypedExpr>) -> TypedExpr
-    ensures { result ≡ spec.cast_down to tree }
+// How a value is cast.
+#[derive(Clone, Copy, Drop)]
+pub enum Casting {
+    By(Conversion),
+    Down(Down),
+}
+
+fn down_at(down: Option<Down>, at: usize) -> Result<Casting, TreeFault>
+    ensures { Tells (spec.down_or down at) result }
 {
-    match to {
-        Down::Class(c) => TypedExpr::Cast(c, tree),
-        Down::Exception(class) => TypedExpr::CastException(class, tree),
+    match down {
+        Some(to) => Ok(Casting::Down(to)),
+        None => Err(TreeFault::new(FaultWord::WrongType, at)),
+    }
+}
+
+fn cast_how(lines: &ClassHeads, value: &Typed, to: &ValueType) -> Result<Casting, TreeFault>
+    ensures { Tells (spec.cast_how lines.now.heads value.now to.now) result }
+{
+    match conversion(lines, &value.kind, to) {
+        Some(how) => Ok(Casting::By(how)),
+        None => down_at(down_to(lines, &value.kind, to), value.at),
     }
 }
 
 fn cast_tree(
     alloc: Global,
-    lines: &ClassHeads,
-    value: Typed,
-    to: &ValueType,
-) -> Result<Boxed<TypedExpr>, WalkFault>
-    ensures { Comes (spec.cast_tree lines.now.heads value to.now) result }
+    casting: Casting,
+    tree: Boxed<TypedExpr>,
+) -> Result<Boxed<TypedExpr>, NoMemory>
+    ensures { IfOk result (λ t. t ≡ spec.cast_tree casting tree) }
 {
-    match conversion(lines, &value.kind, to) {
-        Some(how) => Ok(converted(alloc, how, value.tree)?),
-        None => match down_to(lines, &value.kind, to) {
-            Some(to) => Ok(Boxed::new(alloc, cast_down(to, value.tree))?),
-            None => Err(TreeFault::new(FaultWord::WrongType, value.at).into()),
-        },
+    match casting {
+        Casting::By(how) => converted(alloc, how, tree),
+        Casting::Down(Down::Class(c)) => Boxed::new(alloc, TypedExpr::Cast(c, tree)),
+        Casting::Down(Down::Exception(class)) => {
+            Boxed::new(alloc, TypedExpr::CastException(class, tree))
+        }
     }
+}
+
+fn cast_value(
+    alloc: Global,
+    at: usize,
+    to: ValueType,
+    casting: Casting,
+    tree: Boxed<TypedExpr>,
+) -> Result<Typed, WalkFault>
+    ensures { Comes (Gives (spec.cast_value at to casting tree)) result }
+{
+    let tree = cast_tree(alloc, casting, tree)?;
+    Ok(Typed {
+        at,
+        kind: Kind::Is(to),
+        role: Role::Plain,
+        tree,
+    })
 }
 
 /// A cast to a type, which begins at this byte: what fits the type is converted, and an instance may be cast to a class
@@ -84,11 +118,6 @@ pub fn cast_to(
 ) -> Result<Typed, WalkFault>
     ensures { Comes (spec.cast_to lines.now.heads at to value) result }
 {
-    let tree = cast_tree(alloc, lines, value, &to)?;
-    Ok(Typed {
-        at,
-        kind: Kind::Is(to),
-        role: Role::Plain,
-        tree,
-    })
+    let casting = cast_how(lines, &value, &to)?;
+    cast_value(alloc, at, to, casting, value.tree)
 }

@@ -1,23 +1,24 @@
 // Chains of binary operators.
 
 ghost use Rattle.std.specs.Prelude.{◌≡◌, IfOk};
-ghost use Rattle.type_names.specs.Walks.{Comes};
+ghost use Rattle.type_names.specs.Walks.{Gives, Tells};
+ghost use Rattle.typed_values.specs.Alterations.{Alters};
 ghost use Rattle.typed_operations.specs.Chains as spec;
 
+use crate::{Fit, Judged, judge};
 use apex_list::{Boxed, Items};
 use apex_num::NoMemory;
-use apex_schema::FaultWord;
 use apex_syntax::BinaryOp;
-use class_heads::ClassHeads;
-use operator_types::{Fit, Judged, judge};
+use class_tables::ClassHeads;
+use fault_words::FaultWord;
 use static_types::{Primitive, ValueType};
 use std::alloc::Global;
 use type_names::{TreeFault, WalkFault};
-use typed_trees::{TypedExpr, TypedOperand};
+use typed_program::{TypedExpr, TypedOperand};
 use typed_values::{Kind, Typed, converted};
 
 /// The operands of a chain up to some place: what they give together, the first one, and the operators behind it.
-#[derive(Debug, Drop)]
+#[derive(Drop)]
 pub struct OpenChain {
     /// The byte place of the first token, from 0.
     pub at: usize,
@@ -48,30 +49,40 @@ pub fn begun(alloc: Global, value: Typed) -> OpenChain
     }
 }
 
-fn operand(alloc: Global, fit: Fit, right: Boxed<TypedExpr>) -> Result<TypedOperand, NoMemory>
-    ensures { IfOk result (λ o. o ≡ spec.operand fit right) }
+/// How an operator goes with its operands, the left one of which begins at this byte. `WrongType` at it where the operator
+/// doesn't take it, and at the right one where it doesn't take that behind it.
+pub fn fit_at(
+    lines: &ClassHeads,
+    left: &Kind,
+    at: usize,
+    op: BinaryOp,
+    right: &Typed,
+) -> Result<Fit, TreeFault>
+    ensures { Tells (spec.fit_at lines.now.heads left.now at op right.now) result }
 {
-    let right = converted(alloc, fit.right, right)?;
-    Ok(TypedOperand {
-        left: fit.left,
-        op: fit.op,
-        right: right.into_value(),
-    })
+    match judge(lines, left, op, &right.kind) {
+        Judged::Left => Err(TreeFault::new(FaultWord::WrongType, at)),
+        Judged::Right => Err(TreeFault::new(FaultWord::WrongType, right.at)),
+        Judged::Fits(fit) => Ok(fit),
+    }
 }
 
 fn with_fit(
     alloc: Global,
-    chain: OpenChain,
     fit: Fit,
     right: Boxed<TypedExpr>,
-) -> Result<OpenChain, NoMemory>
-    ensures { IfOk result (λ c. c ≡ spec.with_fit chain fit right) }
+    chain: &mut OpenChain,
+) -> Result<(), WalkFault>
+    ensures { Alters (Gives (spec.with_fit chain.old fit right)) result chain.new }
 {
-    let mut chain = chain;
-    let operand = operand(alloc, fit, right)?;
-    chain.rest.push(operand)?;
+    let right = converted(alloc, fit.right, right)?;
+    chain.rest.push(TypedOperand {
+        left: fit.left,
+        op: fit.op,
+        right,
+    })?;
     chain.kind = given(fit.gives);
-    Ok(chain)
+    Ok(())
 }
 
 /// One operator and one operand more. `WrongType` at the first token of the chain where the operator doesn't take what
@@ -79,17 +90,14 @@ fn with_fit(
 pub fn with_operand(
     alloc: Global,
     lines: &ClassHeads,
-    chain: OpenChain,
     op: BinaryOp,
     right: Typed,
-) -> Result<OpenChain, WalkFault>
-    ensures { Comes (spec.with_operand lines.now.heads chain op right) result }
+    chain: &mut OpenChain,
+) -> Result<(), WalkFault>
+    ensures { Alters (spec.with_operand lines.now.heads chain.old op right) result chain.new }
 {
-    match judge(lines, &chain.kind, op, &right.kind) {
-        Judged::Left => Err(TreeFault::new(FaultWord::WrongType, chain.at).into()),
-        Judged::Right => Err(TreeFault::new(FaultWord::WrongType, right.at).into()),
-        Judged::Fits(fit) => Ok(with_fit(alloc, chain, fit, right.tree)?),
-    }
+    let fit = fit_at(lines, &chain.kind, chain.at, op, &right)?;
+    with_fit(alloc, fit, right.tree, chain)
 }
 
 /// The expression that a chain is.

@@ -1,26 +1,20 @@
 // Conditional expressions.
 
-ghost use Rattle.std.specs.Prelude.{◌≡◌, IfOk};
-ghost use Rattle.type_names.specs.Walks.{Comes};
+ghost use Rattle.type_names.specs.Walks.{Comes, Gives, Tells};
 ghost use Rattle.typed_operations.specs.Choices as spec;
 ghost use Rattle.typed_values.specs.Fits.{converted as converted_by};
 
 use apex_list::Boxed;
-use apex_num::NoMemory;
-use apex_schema::FaultWord;
-use class_heads::ClassHeads;
+use class_tables::ClassHeads;
+use fault_words::FaultWord;
 use std::alloc::Global;
 use type_names::{TreeFault, WalkFault};
-use typed_trees::{Conversion, TypedExpr};
+use typed_program::{Conversion, TypedExpr};
 use typed_values::{Kind, Typed, condition, conversion, converted};
 
 /// How two branches meet in one type.
-#[derive(Clone, Copy, Debug, PartialEq, Eq, Drop)]
+#[derive(Clone, Copy, Drop)]
 pub enum Meeting {
-    /// The first is no value.
-    First,
-    /// The second is no value, or doesn't fit the first.
-    Second,
     /// Both have the first one's type, once the second is converted so.
     AsFirst(Conversion),
     /// Both have the second one's type, once the first is converted so.
@@ -29,27 +23,27 @@ pub enum Meeting {
     Unknown,
 }
 
-fn as_second(how: Option<Conversion>) -> Meeting
-    ensures { result ≡ spec.as_second how }
+fn as_second(how: Option<Conversion>, at: usize) -> Result<Meeting, TreeFault>
+    ensures { Tells (spec.as_second how at) result }
 {
     match how {
-        Some(how) => Meeting::AsSecond(how),
-        None => Meeting::Second,
+        Some(how) => Ok(Meeting::AsSecond(how)),
+        None => Err(TreeFault::new(FaultWord::WrongType, at)),
     }
 }
 
-fn meeting_of(lines: &ClassHeads, first: &Kind, second: &Kind) -> Meeting
-    ensures { result ≡ spec.meeting_of lines.now.heads first.now second.now }
+fn meeting_at(lines: &ClassHeads, first: &Typed, second: &Typed) -> Result<Meeting, TreeFault>
+    ensures { Tells (spec.meeting_at lines.now.heads first.now second.now) result }
 {
-    match (first, second) {
-        (Kind::Nothing, _) => Meeting::First,
-        (_, Kind::Nothing) => Meeting::Second,
-        (Kind::Faulty, _) | (_, Kind::Faulty) => Meeting::Unknown,
-        (Kind::Null, _) => Meeting::AsSecond(Conversion::Same),
-        (_, Kind::Null) => Meeting::AsFirst(Conversion::Same),
-        (Kind::Is(a), Kind::Is(b)) => match conversion(lines, second, a) {
-            Some(how) => Meeting::AsFirst(how),
-            None => as_second(conversion(lines, first, b)),
+    match (&first.kind, &second.kind) {
+        (Kind::Nothing, _) => Err(TreeFault::new(FaultWord::WrongType, first.at)),
+        (_, Kind::Nothing) => Err(TreeFault::new(FaultWord::WrongType, second.at)),
+        (Kind::Faulty, _) | (_, Kind::Faulty) => Ok(Meeting::Unknown),
+        (Kind::Null, _) => Ok(Meeting::AsSecond(Conversion::Same)),
+        (_, Kind::Null) => Ok(Meeting::AsFirst(Conversion::Same)),
+        (Kind::Is(a), Kind::Is(b)) => match conversion(lines, &second.kind, a) {
+            Some(how) => Ok(Meeting::AsFirst(how)),
+            None => as_second(conversion(lines, &first.kind, b), second.at),
         },
     }
 }
@@ -61,12 +55,12 @@ fn as_first(
     test: Boxed<TypedExpr>,
     first: Typed,
     second: Boxed<TypedExpr>,
-) -> Result<Typed, NoMemory>
-    ensures { IfOk result (λ t. t ≡ spec.either at first.kind test first.tree (converted_by how second)) }
+) -> Result<Typed, WalkFault>
+    ensures { Comes (Gives (spec.either at first.kind test first.tree (converted_by how second))) result }
 {
     let second = converted(alloc, how, second)?;
     let tree = TypedExpr::Conditional(test, first.tree, second);
-    Typed::plain(alloc, at, first.kind, tree)
+    Ok(Typed::plain(alloc, at, first.kind, tree)?)
 }
 
 fn as_second_is(
@@ -76,33 +70,41 @@ fn as_second_is(
     test: Boxed<TypedExpr>,
     first: Boxed<TypedExpr>,
     second: Typed,
-) -> Result<Typed, NoMemory>
-    ensures { IfOk result (λ t. t ≡ spec.either at second.kind test (converted_by how first) second.tree) }
+) -> Result<Typed, WalkFault>
+    ensures { Comes (Gives (spec.either at second.kind test (converted_by how first) second.tree)) result }
 {
     let first = converted(alloc, how, first)?;
     let tree = TypedExpr::Conditional(test, first, second.tree);
-    Typed::plain(alloc, at, second.kind, tree)
+    Ok(Typed::plain(alloc, at, second.kind, tree)?)
 }
 
-fn branches(
+fn unknown(
     alloc: Global,
-    lines: &ClassHeads,
+    at: usize,
+    test: Boxed<TypedExpr>,
+    first: Boxed<TypedExpr>,
+    second: Boxed<TypedExpr>,
+) -> Result<Typed, WalkFault>
+    ensures { Comes (Gives (spec.either at Kind.Faulty test first second)) result }
+{
+    let tree = TypedExpr::Conditional(test, first, second);
+    Ok(Typed::plain(alloc, at, Kind::Faulty, tree)?)
+}
+
+fn met(
+    alloc: Global,
+    meeting: Meeting,
     at: usize,
     test: Boxed<TypedExpr>,
     first: Typed,
     second: Typed,
 ) -> Result<Typed, WalkFault>
-    ensures { Comes (spec.branches lines.now.heads at test first second) result }
+    ensures { Comes (Gives (spec.met meeting at test first second)) result }
 {
-    match meeting_of(lines, &first.kind, &second.kind) {
-        Meeting::First => Err(TreeFault::new(FaultWord::WrongType, first.at).into()),
-        Meeting::Second => Err(TreeFault::new(FaultWord::WrongType, second.at).into()),
-        Meeting::AsFirst(how) => Ok(as_first(alloc, at, how, test, first, second.tree)?),
-        Meeting::AsSecond(how) => Ok(as_second_is(alloc, at, how, test, first.tree, second)?),
-        Meeting::Unknown => {
-            let tree = TypedExpr::Conditional(test, first.tree, second.tree);
-            Ok(Typed::plain(alloc, at, Kind::Faulty, tree)?)
-        }
+    match meeting {
+        Meeting::AsFirst(how) => as_first(alloc, at, how, test, first, second.tree),
+        Meeting::AsSecond(how) => as_second_is(alloc, at, how, test, first.tree, second),
+        Meeting::Unknown => unknown(alloc, at, test, first.tree, second.tree),
     }
 }
 
@@ -119,5 +121,6 @@ pub fn chosen(
 {
     let at = test.at;
     let test = condition(alloc, lines, test)?;
-    branches(alloc, lines, at, test, first, second)
+    let meeting = meeting_at(lines, &first, &second)?;
+    met(alloc, meeting, at, test, first, second)
 }

@@ -4,13 +4,13 @@ ghost use Rattle.std.specs.Prelude.{◌≡◌};
 ghost use Rattle.type_names.specs.Walks.{Comes, Tells};
 ghost use Rattle.typed_operations.specs.Prefixes as spec;
 
-use apex_schema::FaultWord;
-use class_heads::ClassHeads;
-use operator_types::{Sort, number_of, sort_of};
+use crate::{Sort, number_of, sort_of};
+use class_tables::ClassHeads;
+use fault_words::FaultWord;
 use static_types::{Primitive, ValueType};
 use std::alloc::Global;
 use type_names::{TreeFault, WalkFault};
-use typed_trees::{Number, StepKind, TypedExpr};
+use typed_program::{Number, StepKind, TypedExpr};
 use typed_values::{Kind, Role, Typed, condition};
 
 /// `!` of a condition, which begins at this byte.

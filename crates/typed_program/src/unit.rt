@@ -1,11 +1,10 @@
-// The typed trees of units. Numbers count from 0, as in `typed_trees`.
+// The typed trees of units. Numbers count from 0, as in expressions.
 
-use apex_list::Items;
-use typed_statements::TypedStmt;
-use typed_trees::{Constructor, TypedExpr};
+use crate::{Constructor, TypedExpr, TypedStmt};
+use apex_list::{Boxed, Items};
 
 /// The constructor of its parent that a constructor calls.
-#[derive(Clone, Copy, Debug, PartialEq, Eq, Drop)]
+#[derive(Clone, Copy, PartialEq, Eq, Drop)]
 pub enum ParentCall {
     /// None: the class has no parent, or `Exception` is its parent.
     Nothing,
@@ -16,26 +15,26 @@ pub enum ParentCall {
 }
 
 /// A constructor.
-#[derive(Debug, Drop)]
+#[derive(Drop)]
 pub struct TypedConstructor {
     pub parent: ParentCall,
     pub stmts: Items<TypedStmt>,
 }
 
 /// What stands in the members of a class, each kind in the order of the text.
-#[derive(Debug, Drop)]
+#[derive(Drop)]
 pub struct TypedClass {
     /// What the constructor calls that a class has which declares none.
     pub parent: ParentCall,
     /// The initial values; a field without one is null at first.
-    pub fields: Items<Option<TypedExpr>>,
+    pub fields: Items<Option<Boxed<TypedExpr>>>,
     /// The bodies of the methods that have one.
     pub methods: Items<Option<Items<TypedStmt>>>,
     pub constructors: Items<TypedConstructor>,
 }
 
 /// A unit.
-#[derive(Debug, Drop)]
+#[derive(Drop)]
 pub enum TypedUnit {
     Class(TypedClass),
     Interface,

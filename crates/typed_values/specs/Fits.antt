@@ -1,8 +1,8 @@
 -- What fits where (docs/language.md, "Values and their types").
-use Rattle.std.specs.Prelude.{ℕ, eqb, Bool, false, cond, List, Option, None, Some}
-use Rattle.apex_schema.specs.declared.reply.FaultWord.TheVariants.{WrongType}
-use Rattle.class_heads.specs.declared.head.ClassHead.{ClassHead}
-use Rattle.class_heads.specs.Lines.{fits}
+use Rattle.std.specs.Prelude.{ℕ, eqb, Bool, true, false, cond, List, Option, None, Some}
+use Rattle.fault_words.specs.declared.fault.FaultWord.TheVariants.{WrongType}
+use Rattle.class_tables.specs.declared.head.ClassHead.{ClassHead}
+use Rattle.class_tables.specs.Lines.{fits}
 use Rattle.static_types.specs.declared.kind.Primitive.{Primitive}
 use Rattle.static_types.specs.declared.kind.Primitive.TheVariants as P
 use Rattle.static_types.specs.declared.kind.ValueType.{ValueType}
@@ -10,11 +10,11 @@ use Rattle.static_types.specs.declared.kind.ValueType.TheOpen.{ValueType-F}
 use Rattle.static_types.specs.declared.kind.ValueType.TheVariants as V
 use Rattle.static_types.specs.declared.kind.ValueType.TheViews.{out-ValueType}
 use Rattle.static_types.specs.Types.{same_primitive}
-use Rattle.type_names.specs.Walks.{Walk, Gives, wrong}
-use Rattle.typed_trees.specs.declared.expr.Conversion.{Conversion}
-use Rattle.typed_trees.specs.declared.expr.Conversion.TheVariants.{Same, ToLong, ToDecimal, ToId, ToText, ToRecord}
-use Rattle.typed_trees.specs.declared.expr.TypedExpr.{TypedExpr}
-use Rattle.typed_trees.specs.declared.expr.TypedExpr.TheVariants.{Convert}
+use Rattle.type_names.specs.Walks.{Walk, Gives, wrong, onward}
+use Rattle.typed_program.specs.declared.expr.Conversion.{Conversion}
+use Rattle.typed_program.specs.declared.expr.Conversion.TheVariants.{Same, ToLong, ToDecimal, ToId, ToText, ToRecord}
+use Rattle.typed_program.specs.declared.expr.TypedExpr.{TypedExpr}
+use Rattle.typed_program.specs.declared.expr.TypedExpr.TheVariants.{Convert}
 use Rattle.typed_values.specs.declared.typed.Kind.{Kind}
 use Rattle.typed_values.specs.declared.typed.Kind.TheVariants.{Nothing, Null, Faulty, Is}
 use Rattle.typed_values.specs.declared.typed.Role.{Role}
@@ -27,28 +27,27 @@ typed at kind role tree = record { at = at; kind = kind; role = role; tree = tre
 abbrev pub plain : ℕ → Kind → TypedExpr → Typed
 plain at kind tree = typed at kind Plain tree
 
--- along Integer, Long and Decimal, and between String and Id
-abbrev pub widening : Primitive → Primitive → Option Conversion
-widening P.Integer P.Long = Some ToLong
-widening P.Integer P.Decimal = Some ToDecimal
-widening P.Long P.Decimal = Some ToDecimal
-widening P.String P.Id = Some ToId
-widening P.Id P.String = Some ToText
-widening _ _ = None
+-- what a primitive becomes where one of this type is due
+abbrev pub becomes : Primitive → Conversion
+becomes P.Long = ToLong
+becomes P.Decimal = ToDecimal
+becomes P.Id = ToId
+becomes P.String = ToText
+becomes _ = Same
 
-abbrev pub primitive_conversion : Primitive → Primitive → Option Conversion
-primitive_conversion p q = cond (same_primitive p q) (Some Same) (widening p q)
-
-abbrev pub same_where : Bool → Option Conversion
-same_where fits = cond fits (Some Same) None
+abbrev pub between : Primitive → Primitive → Conversion
+between p q = cond (same_primitive p q) Same (becomes q)
 
 -- nothing but primitives is converted
-abbrev pub form_conversion : Bool → ValueType-F ValueType → ValueType-F ValueType → Option Conversion
-form_conversion fits (ValueType-F.Primitive p) (ValueType-F.Primitive q) = primitive_conversion p q
-form_conversion fits _ _ = same_where fits
+abbrev pub form_how : ValueType-F ValueType → ValueType-F ValueType → Conversion
+form_how (ValueType-F.Primitive p) (ValueType-F.Primitive q) = between p q
+form_how _ _ = Same
+
+abbrev pub how : ValueType → ValueType → Conversion
+how from to = form_how (out-ValueType from) (out-ValueType to)
 
 abbrev pub type_conversion : List ClassHead → ValueType → ValueType → Option Conversion
-type_conversion heads from to = form_conversion (fits heads from to) (out-ValueType from) (out-ValueType to)
+type_conversion heads from to = cond (fits heads from to) (Some (how from to)) None
 
 -- what is no value fits nowhere; `null` fits everywhere, and so does what is at fault elsewhere
 abbrev pub conversion : List ClassHead → Kind → ValueType → Option Conversion
@@ -57,16 +56,26 @@ conversion heads Null to = Some Same
 conversion heads Faulty to = Some Same
 conversion heads (Is from) to = type_conversion heads from to
 
+-- whether a value fits
+abbrev pub takes : List ClassHead → Kind → ValueType → Bool
+takes heads Nothing to = false
+takes heads Null to = true
+takes heads Faulty to = true
+takes heads (Is from) to = fits heads from to
+
 abbrev pub converted : Conversion → TypedExpr → TypedExpr
 converted Same tree = tree
 converted how tree = Convert how tree
 
-abbrev pub fitted_by : Option Conversion → Typed → Walk TypedExpr
-fitted_by (Some how) value = Gives (converted how value.tree)
-fitted_by None value = wrong WrongType value.at
+abbrev pub how_or : Option Conversion → ℕ → Walk Conversion
+how_or (Some how) at = Gives how
+how_or None at = wrong WrongType at
+
+abbrev pub fitting : List ClassHead → Typed → ValueType → Walk Conversion
+fitting heads value to = how_or (conversion heads value.kind to) value.at
 
 abbrev pub fitted : List ClassHead → Typed → ValueType → Walk TypedExpr
-fitted heads value to = fitted_by (conversion heads value.kind to) value
+fitted heads value to = onward (fitting heads value to) (λ how. Gives (converted how value.tree))
 
 abbrev pub condition : List ClassHead → Typed → Walk TypedExpr
 condition heads value = fitted heads value (V.Primitive P.Boolean)

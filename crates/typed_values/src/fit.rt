@@ -1,57 +1,71 @@
 // What fits where.
 
-ghost use Rattle.std.specs.Prelude.{◌≡◌, IfOk};
+ghost use Rattle.std.specs.Prelude.{◌≡◌, is_some, IfOk};
 ghost use Rattle.static_types.specs.declared.kind.ValueType.TheViews.{out-ValueType};
-ghost use Rattle.type_names.specs.Walks.{Comes};
+ghost use Rattle.type_names.specs.Walks.{Comes, Gives, Tells};
 ghost use Rattle.typed_values.specs.Fits as spec;
 
 use crate::typed::{Kind, Role, Typed};
 use apex_list::Boxed;
 use apex_num::NoMemory;
-use apex_schema::FaultWord;
-use class_heads::ClassHeads;
+use class_tables::ClassHeads;
+use fault_words::FaultWord;
 use static_types::{Primitive, ValueType};
 use std::alloc::Global;
 use type_names::{TreeFault, WalkFault};
-use typed_trees::{Conversion, TypedExpr};
+use typed_program::{Conversion, TypedExpr};
 
-// How a primitive becomes another one, where it does.
-fn primitive_conversion(from: Primitive, to: Primitive) -> Option<Conversion>
-    ensures { result ≡ spec.primitive_conversion from to }
+// What a primitive becomes where one of this type is due.
+fn becomes(to: Primitive) -> Conversion
+    ensures { result ≡ spec.becomes to }
 {
-    if from == to {
-        return Some(Conversion::Same);
-    }
-    match (from, to) {
-        (Primitive::Integer, Primitive::Long) => Some(Conversion::ToLong),
-        (Primitive::Integer, Primitive::Decimal) => Some(Conversion::ToDecimal),
-        (Primitive::Long, Primitive::Decimal) => Some(Conversion::ToDecimal),
-        (Primitive::String, Primitive::Id) => Some(Conversion::ToId),
-        (Primitive::Id, Primitive::String) => Some(Conversion::ToText),
-        _ => None,
+    match to {
+        Primitive::Long => Conversion::ToLong,
+        Primitive::Decimal => Conversion::ToDecimal,
+        Primitive::Id => Conversion::ToId,
+        Primitive::String => Conversion::ToText,
+        Primitive::Boolean | Primitive::Integer | Primitive::Date | Primitive::Datetime =>
+            Conversion::Same,
     }
 }
 
-fn same_where(fits: bool) -> Option<Conversion>
-    ensures { result ≡ spec.same_where fits }
+/// How a primitive becomes one of a type that it fits.
+pub fn between(from: Primitive, to: Primitive) -> Conversion
+    ensures { result ≡ spec.between from to }
 {
-    if fits { Some(Conversion::Same) } else { None }
+    if from == to {
+        Conversion::Same
+    } else {
+        becomes(to)
+    }
+}
+
+// Nothing but primitives is converted.
+fn how(from: &ValueType, to: &ValueType) -> Conversion
+    ensures { result ≡ spec.how from.now to.now }
+{
+    match (from, to) {
+        (ValueType::Primitive(p), ValueType::Primitive(q)) => between(*p, *q),
+        _ => Conversion::Same,
+    }
 }
 
 fn type_conversion(lines: &ClassHeads, from: &ValueType, to: &ValueType) -> Option<Conversion>
     ensures { result ≡ spec.type_conversion lines.now.heads from.now to.now }
 {
-    match (from, to) {
-        (ValueType::Primitive(p), ValueType::Primitive(q)) => primitive_conversion(*p, *q),
-        _ => same_where(lines.fits(from, to)),
+    if lines.fits(from, to) {
+        Some(how(from, to))
+    } else {
+        None
     }
 }
 
 /// How a value of what is known becomes one of this type, or `None` where it doesn't fit: types are equal, Integer
 /// becomes Long and both become Decimal, String and Id become one another, a class becomes an ancestor or an interface,
-/// an exception `Exception`; `null` becomes everything.
+/// an exception `Exception`; `null` becomes everything. There is a conversion exactly where the value fits.
 pub fn conversion(lines: &ClassHeads, from: &Kind, to: &ValueType) -> Option<Conversion>
-    ensures { result ≡ spec.conversion lines.now.heads from.now to.now }
+    ensures how { result ≡ spec.conversion lines.now.heads from.now to.now }
+    ensures fits { is_some result ≡ spec.takes lines.now.heads from.now to.now }
 {
     match from {
         Kind::Nothing => None,
@@ -74,6 +88,26 @@ pub fn converted(
     }
 }
 
+// How a value becomes one of a type; `WrongType` at it where it doesn't fit.
+fn fitting(lines: &ClassHeads, value: &Typed, to: &ValueType) -> Result<Conversion, TreeFault>
+    ensures { Tells (spec.fitting lines.now.heads value.now to.now) result }
+{
+    match conversion(lines, &value.kind, to) {
+        Some(how) => Ok(how),
+        None => Err(TreeFault::new(FaultWord::WrongType, value.at)),
+    }
+}
+
+fn given(
+    alloc: Global,
+    how: Conversion,
+    tree: Boxed<TypedExpr>,
+) -> Result<Boxed<TypedExpr>, WalkFault>
+    ensures { Comes (Gives (spec.converted how tree)) result }
+{
+    Ok(converted(alloc, how, tree)?)
+}
+
 /// The tree of a value that has to fit a type, with its conversion; `WrongType` at the value where it doesn't.
 pub fn fitted(
     alloc: Global,
@@ -83,10 +117,8 @@ pub fn fitted(
 ) -> Result<Boxed<TypedExpr>, WalkFault>
     ensures { Comes (spec.fitted lines.now.heads value to.now) result }
 {
-    match conversion(lines, &value.kind, to) {
-        Some(how) => Ok(converted(alloc, how, value.tree)?),
-        None => Err(TreeFault::new(FaultWord::WrongType, value.at).into()),
-    }
+    let how = fitting(lines, &value, to)?;
+    given(alloc, how, value.tree)
 }
 
 /// The tree of a condition: Boolean, or `null`.
@@ -138,7 +170,7 @@ pub fn stored(
     ensures { Comes (spec.stored lines.now.heads value to.now) result }
 {
     if gives_record(&value, to) {
-        return Ok(converted(alloc, Conversion::ToRecord, value.tree)?);
+        return given(alloc, Conversion::ToRecord, value.tree);
     }
     fitted(alloc, lines, value, to)
 }

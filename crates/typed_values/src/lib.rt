@@ -4,5 +4,5 @@
 mod fit;
 mod typed;
 
-pub use fit::{condition, conversion, converted, fitted, lists_records, stored};
+pub use fit::{between, condition, conversion, converted, fitted, lists_records, stored};
 pub use typed::{Kind, Role, Space, Typed};

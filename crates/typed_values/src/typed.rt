@@ -7,10 +7,10 @@ use apex_list::Boxed;
 use apex_num::NoMemory;
 use static_types::{TypeName, ValueType};
 use std::alloc::Global;
-use typed_trees::TypedExpr;
+use typed_program::TypedExpr;
 
 /// What is known of the type of an expression.
-#[derive(Debug, Drop)]
+#[derive(Drop)]
 pub enum Kind {
     /// It is no value: a call that answers nothing, or a name that stands for no value.
     Nothing,
@@ -22,7 +22,7 @@ pub enum Kind {
 }
 
 /// What a name before a dot stands for where it is no value.
-#[derive(Clone, Copy, Debug, PartialEq, Eq, Drop)]
+#[derive(Clone, Copy, Drop)]
 pub enum Space {
     /// The class or interface with this number.
     Class(usize),
@@ -39,7 +39,7 @@ pub enum Space {
 }
 
 /// What may be done with an expression beside reading its value.
-#[derive(Clone, Copy, Debug, PartialEq, Eq, Drop)]
+#[derive(Clone, Copy, Drop)]
 pub enum Role {
     Plain,
     /// It is a query itself, so that it may stand for its only record.
@@ -55,7 +55,7 @@ pub enum Role {
 }
 
 /// An expression whose names and types are known. The byte place of its first token counts from 0.
-#[derive(Debug, Drop)]
+#[derive(Drop)]
 pub struct Typed {
     pub at: usize,
     pub kind: Kind,

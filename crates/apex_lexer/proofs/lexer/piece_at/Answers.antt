@@ -1,5 +1,5 @@
 use Rattle.std.proofs.Common.{◌≡◌, true, MatchBool, drop, subst}
-use Rattle.date_texts.specs.Forms.{BeginsDate}
+use Rattle.civil_dates.specs.Texts.{BeginsDate}
 use Rattle.apex_lexer.specs.Lexemes.{plain}
 use Rattle.apex_lexer.specs.Brackets.{inside}
 use Rattle.apex_lexer.specs.Scans.{IsLongest}

@@ -7,4 +7,4 @@ pub exprs-smaller : goal.exprs-smaller
 exprs-smaller g c = nearer (inl tt) c.in_ok-next.ensures
 
 pub exprs-preserved : goal.exprs-preserved
-exprs-preserved g c = list_more c.exprs.invariant c.exprs-test.ensures c.in_ok-next.ensures c.in_ok-push-2.ensures.ok
+exprs-preserved g c = list_more c.exprs.invariant c.exprs-test.ensures c.in_ok-next.ensures c.in_ok-add-2.ensures.ok

@@ -1,4 +1,4 @@
-use Rattle.token_grammar.proofs.Chain.{next, halt, past, stuck, here, since, gives, raised}
+use Rattle.token_grammar.proofs.Chain.{next, halt, past, stuck, here, raised, ended}
 use Rattle.apex_parse_expr.proofs.args.paren.Goals as goal
 
 pub returns-in_err-tree : goal.returns-in_err-tree
@@ -8,4 +8,4 @@ pub returns-in_err-end : goal.returns-in_err-end
 returns-in_err-end g c = raised c.from_residual-in_err-end.ensures (here (next c.in_ok-behind.ensures.told (next c.in_ok-tree.ensures (stuck c.in_err-end.ensures))))
 
 pub returns : goal.returns
-returns g c = rw c.in_ok-new.ensures (rw c.span_of-span.ensures (here (next c.in_ok-behind.ensures.told (next c.in_ok-tree.ensures (past c.in_ok-end.ensures (since gives))))))
+returns g c = here (next c.in_ok-behind.ensures.told (next c.in_ok-tree.ensures (past c.in_ok-end.ensures (ended c.span_of-span.ensures c.boxed.ensures))))

@@ -5,4 +5,4 @@ pub returns-in_err-tree : goal.returns-in_err-tree
 returns-in_err-tree g c = raised c.from_residual-in_err-tree.ensures (here (past c.in_ok-behind.ensures (halt c.in_err-tree.ensures)))
 
 pub returns : goal.returns
-returns g c = rw c.in_ok-new.ensures (rw c.span_of-span.ensures (here (past c.in_ok-behind.ensures (next c.in_ok-tree.ensures (since gives)))))
+returns g c = rw c.span_of-span.ensures (here (past c.in_ok-behind.ensures (next c.in_ok-tree.ensures (since gives))))

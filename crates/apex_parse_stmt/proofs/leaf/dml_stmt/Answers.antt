@@ -1,4 +1,4 @@
-use Rattle.token_grammar.proofs.Chain.{next, halt, past, stuck, here, since, gives, raised}
+use Rattle.token_grammar.proofs.Chain.{next, halt, past, stuck, here, raised, ended}
 use Rattle.apex_parse_stmt.proofs.leaf.dml_stmt.Goals as goal
 
 pub returns-in_err-value : goal.returns-in_err-value
@@ -8,4 +8,4 @@ pub returns-in_err-end : goal.returns-in_err-end
 returns-in_err-end c = raised c.from_residual-in_err-end.ensures (here (next c.in_ok-op.ensures (next c.in_ok-value.ensures (stuck c.in_err-end.ensures))))
 
 pub returns : goal.returns
-returns c = rw c.span_of-span.ensures (here (next c.in_ok-op.ensures (next c.in_ok-value.ensures (past c.in_ok-end.ensures (since gives)))))
+returns c = here (next c.in_ok-op.ensures (next c.in_ok-value.ensures (past c.in_ok-end.ensures (ended c.span_of-span.ensures c.boxed.ensures))))

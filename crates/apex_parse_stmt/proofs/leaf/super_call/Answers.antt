@@ -1,4 +1,4 @@
-use Rattle.token_grammar.proofs.Chain.{next, halt, past, stuck, here, since, gives, raised}
+use Rattle.token_grammar.proofs.Chain.{next, halt, past, stuck, here, raised, ended}
 use Rattle.apex_parse_stmt.proofs.leaf.super_call.Goals as goal
 
 pub returns-in_err-args : goal.returns-in_err-args
@@ -8,4 +8,4 @@ pub returns-in_err-end : goal.returns-in_err-end
 returns-in_err-end c = raised c.from_residual-in_err-end.ensures (here (past c.in_ok-behind.ensures (next c.in_ok-args.ensures (stuck c.in_err-end.ensures))))
 
 pub returns : goal.returns
-returns c = rw c.span_of-span.ensures (here (past c.in_ok-behind.ensures (next c.in_ok-args.ensures (past c.in_ok-end.ensures (since gives)))))
+returns c = here (past c.in_ok-behind.ensures (next c.in_ok-args.ensures (past c.in_ok-end.ensures (ended c.span_of-span.ensures c.boxed.ensures))))

@@ -1,4 +1,4 @@
-use Rattle.token_grammar.proofs.Chain.{next, halt, past, stuck, gives, raised}
+use Rattle.token_grammar.proofs.Chain.{next, halt, past, stuck, raised}
 use Rattle.apex_parse_stmt.proofs.loops.for_rest.Goals as goal
 
 pub returns-in_err-cond : goal.returns-in_err-cond
@@ -11,4 +11,4 @@ pub returns-in_err-step : goal.returns-in_err-step
 returns-in_err-step c = raised c.from_residual-in_err-step.ensures (past c.in_ok-behind.ensures (next c.in_ok-cond.ensures (past c.in_ok-behind-2.ensures (halt c.in_err-step.ensures))))
 
 pub returns : goal.returns
-returns c = past c.in_ok-behind.ensures (next c.in_ok-cond.ensures (past c.in_ok-behind-2.ensures (next c.in_ok-step.ensures gives)))
+returns c = past c.in_ok-behind.ensures (next c.in_ok-cond.ensures (past c.in_ok-behind-2.ensures (next c.in_ok-step.ensures (c.boxed.ensures c.args.tokens.now))))

@@ -1,4 +1,4 @@
-use Rattle.token_grammar.proofs.Chain.{next, halt, past, here, since, gives, raised}
+use Rattle.token_grammar.proofs.Chain.{next, halt, past, here, raised, ended}
 use Rattle.apex_parse_stmt.proofs.nest.do_stmt.Goals as goal
 
 pub returns-in_err-inner : goal.returns-in_err-inner
@@ -8,4 +8,4 @@ pub returns-in_err-cond : goal.returns-in_err-cond
 returns-in_err-cond g c = raised c.from_residual-in_err-cond.ensures (here (past c.in_ok-behind.ensures (next c.in_ok-inner.ensures (halt c.in_err-cond.ensures))))
 
 pub returns : goal.returns
-returns g c = rw c.span_of-span.ensures (here (past c.in_ok-behind.ensures (next c.in_ok-inner.ensures (next c.in_ok-cond.ensures (since gives)))))
+returns g c = here (past c.in_ok-behind.ensures (next c.in_ok-inner.ensures (next c.in_ok-cond.ensures (ended c.span_of-span.ensures c.boxed.ensures))))

@@ -7,4 +7,4 @@ pub stmts-smaller : goal.stmts-smaller
 stmts-smaller c = nearer (stmt_moves c.args.room) c.in_ok-next.ensures
 
 pub stmts-preserved : goal.stmts-preserved
-stmts-preserved c = rw c.in_ok-push.ensures.ok (grown c.stmts.invariant c.stmts-test.ensures c.in_ok-next.ensures)
+stmts-preserved c = rw c.in_ok-push.ensures.ok (rw c.into_value.ensures (grown c.stmts.invariant c.stmts-test.ensures c.in_ok-next.ensures))

@@ -1,4 +1,6 @@
-use Rattle.token_grammar.proofs.Chain.{next, halt, past, stuck, here, since, gives, raised}
+use Rattle.std.proofs.Common.{ap}
+use Rattle.apex_parse_unit.proofs.Methods.{signature_tree}
+use Rattle.token_grammar.proofs.Chain.{next, halt, past, stuck, here, raised, ended, given}
 use Rattle.apex_parse_unit.proofs.interfaces.signature.Goals as goal
 
 pub returns-in_err-name : goal.returns-in_err-name
@@ -11,4 +13,4 @@ pub returns-in_err-end : goal.returns-in_err-end
 returns-in_err-end c = raised c.from_residual-in_err-end.ensures (here (next c.in_ok-answer.ensures (next c.in_ok-name.ensures (next c.in_ok-params.ensures (stuck c.in_err-end.ensures)))))
 
 pub returns : goal.returns
-returns c = rw c.span_of-span.ensures (here (next c.in_ok-answer.ensures (next c.in_ok-name.ensures (next c.in_ok-params.ensures (past c.in_ok-end.ensures (since gives))))))
+returns c = here (next c.in_ok-answer.ensures (next c.in_ok-name.ensures (next c.in_ok-params.ensures (past c.in_ok-end.ensures (ended c.span_of-span.ensures (λ ts. given (ap (signature_tree c.span_of-span.result c.in_ok-name.name c.in_ok-params.params) c.into_value.ensures) c.boxed.ensures))))))

@@ -7,4 +7,4 @@ pub all-smaller : goal.all-smaller
 all-smaller c = nearer (signature_moves c.args.room) c.in_ok-next.ensures
 
 pub all-preserved : goal.all-preserved
-all-preserved c = rw c.in_ok-push.ensures.ok (grown c.all.invariant c.all-test.ensures c.in_ok-next.ensures)
+all-preserved c = rw c.in_ok-push.ensures.ok (rw c.into_value.ensures (grown c.all.invariant c.all-test.ensures c.in_ok-next.ensures))

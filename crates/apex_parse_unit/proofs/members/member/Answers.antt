@@ -1,5 +1,8 @@
-use Rattle.token_grammar.proofs.Chain.{next, halt, here, raised}
+use Rattle.token_grammar.proofs.Chain.{next, halt, here, raised, ended}
 use Rattle.apex_parse_unit.proofs.members.member.Goals as goal
 
 pub returns-in_err-body : goal.returns-in_err-body
 returns-in_err-body c = raised c.from_residual-in_err-body.ensures (here (next c.in_ok-modifiers.ensures (halt c.in_err-body.ensures)))
+
+pub returns : goal.returns
+returns c = here (next c.in_ok-modifiers.ensures (next c.in_ok-body.ensures (ended c.span_of-span.ensures c.made.ensures)))

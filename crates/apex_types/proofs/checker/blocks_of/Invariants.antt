@@ -1,5 +1,5 @@
 use Rattle.std.proofs.Common.{◌≡◌, map, take}
-use Rattle.body_walk.specs.Homes.{home}
+use Rattle.apex_types.specs.Homes.{home}
 use Rattle.apex_types.specs.Checks.{block_of}
 use Rattle.apex_types.proofs.checker.blocks_of.Given as goal
 

@@ -1,7 +1,7 @@
 use Rattle.std.proofs.Common.{◌≡◌, Err, sym, ap, ◌∙◌, subst}
-use Rattle.class_heads.specs.Heads.{heads_of, known_of}
-use Rattle.class_members.specs.Members.{members_among}
-use Rattle.schema_places.specs.Names.{object_names}
+use Rattle.class_tables.specs.Heads.{heads_of, known_of}
+use Rattle.class_tables.specs.Members.{members_among}
+use Rattle.record_words.specs.Names.{object_names}
 use Rattle.apex_types.specs.Checks.{Comes, code_of, checked}
 use Rattle.apex_types.proofs.Steps.{code_fails, program_is, memory_wanted, handed_on}
 use Rattle.apex_types.proofs.checker.check.Goals as goal
@@ -20,9 +20,6 @@ returns-in_err-made c =
     (subst (λ s. Comes (code_of s.objects c.in_ok-classes.classes.units.now blocks) (Err fault)) c.in_ok-words.ensures c.in_err-made.ensures) in
     handed_on (checked objects units blocks) c.from_residual-in_err-made.result fault c.from_residual-in_err-made.ensures (code_fails objects units blocks fault told)
 
-pub returns-in_err-all_members : goal.returns-in_err-all_members
-returns-in_err-all_members c = memory_wanted (checked c.args.schema.now.objects c.args.units.now c.args.blocks.now) c.from_residual-in_err-all_members.result c.from_residual-in_err-all_members.ensures
-
 pub returns : goal.returns
 returns c =
     let objects = c.args.schema.now.objects in
@@ -32,6 +29,4 @@ returns c =
     let names : classes.objects.now.names.items ≡ object_names objects = ap (λ p. p.names.items) c.in_ok-classes.ensures.objects ∙ c.in_ok-objects.ensures ∙ ap object_names c.as_slice.ensures in
     let same = c.in_ok-classes.ensures.units in
     let code = sym (ap (λ s. code_of s.objects classes.units.now blocks) c.in_ok-words.ensures ∙ ap (λ u. code_of objects u blocks) same) ∙ c.in_ok-made.ensures in
-    let heads = c.into_heads.ensures ∙ ap (λ x. heads_of x classes.units.now) names ∙ ap (heads_of (object_names objects)) same in
-    let members = c.in_ok-all_members.ensures ∙ c.in_ok-members.ensures ∙ ap (λ x. members_among (known_of x classes.units.now) classes.units.now) names ∙ ap (λ u. members_among (known_of (object_names objects) u) u) same in
-    program_is objects units blocks c.into_heads.result c.in_ok-all_members.field-0 c.in_ok-made.made c.in_ok-made.forms code heads members
+    program_is objects units blocks c.in_ok-made.made c.in_ok-made.forms code

@@ -1,5 +1,5 @@
 use Rattle.std.proofs.Common.{◌≡◌, ◌≤◌, [], drop}
-use Rattle.body_walk.specs.Homes.{home}
+use Rattle.apex_types.specs.Homes.{home}
 use Rattle.apex_types.specs.Checks.{units_from}
 use Rattle.apex_types.proofs.checker.units_of.Given as goal
 

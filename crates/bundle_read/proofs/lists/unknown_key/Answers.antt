@@ -1,4 +1,4 @@
-use Rattle.std.proofs.Common.{◌≡◌, Some, string_bytes, true, false, sym, ap, ◌∙◌, arith, cond, rules}
+use Rattle.std.proofs.Common.{◌≡◌, Some, string_bytes, true, false, sym, ap, ◌∙◌}
 use Rattle.serde_json.specs.View.{members_view}
 use Rattle.bundle_read.specs.Readings.{unknown_key, texts, has}
 use Rattle.bundle_read.proofs.Items.{Entry, unknown_here, unknown_later, has_texts}

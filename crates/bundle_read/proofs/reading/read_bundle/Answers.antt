@@ -1,7 +1,5 @@
-use Rattle.std.proofs.Common.{◌≡◌, true≢false, sym, ◌∙◌}
-use Rattle.serde_json.specs.Data.{Data}
+use Rattle.std.proofs.Common.{true≢false, sym, ◌∙◌}
 use Rattle.serde_json.specs.View.{view}
-use Rattle.bundle_read.specs.Bundles.{IsJson}
 use Rattle.bundle_read.proofs.Whole.{value_reads, value_agrees, nothing_reads, nothing_agrees, no_value}
 use Rattle.bundle_read.proofs.reading.read_bundle.Goals as goal
 

@@ -10,17 +10,13 @@ abbrev pub invariant-values-loop-tree : goal.invariant-values-loop-tree
 invariant-values-loop-tree l =
     all (map (spec.expression (sight l.view)) l.trees) ≡ behind l.values (all (map (spec.expression (sight l.view)) (drop l.tree-index l.trees)))
 
-abbrev pub invariant-expr-loop-one : goal.invariant-expr-loop-one
-invariant-expr-loop-one l =
-    spec.parts_from (map (spec.part (sight l.view)) (drop l.one-index l.all)) l.value ≡ spec.expression (sight l.view) l.fn.tree
+abbrev pub invariant-postfix-loop-one : goal.invariant-postfix-loop-one
+invariant-postfix-loop-one l =
+    spec.parts_from (map (spec.part (sight l.view)) (drop l.one-index l.parts)) l.value ≡ spec.bare (sight l.view) l.fn.tree
 
-abbrev pub invariant-expr-loop-next : goal.invariant-expr-loop-next
-invariant-expr-loop-next l =
-    onward (spec.operands_from (map (spec.operand (sight l.view)) (drop l.next-index l.all)) l.chain) (λ chain. Gives (closed chain)) ≡ spec.expression (sight l.view) l.fn.tree
-
-abbrev pub invariant-part-loop-arg : goal.invariant-part-loop-arg
-invariant-part-loop-arg l =
-    all (map (spec.expression (sight l.view)) l.all) ≡ behind l.values (all (map (spec.expression (sight l.view)) (drop l.arg-index l.all)))
+abbrev pub invariant-chain-loop-next : goal.invariant-chain-loop-next
+invariant-chain-loop-next l =
+    onward (spec.operands_from (map (spec.operand (sight l.view)) (drop l.next-index l.operands)) l.chain) (λ chain. Gives (closed chain)) ≡ spec.bare (sight l.view) l.fn.tree
 
 abbrev pub invariant-fields-loop-tree : goal.invariant-fields-loop-tree
 invariant-fields-loop-tree l =
@@ -48,4 +44,4 @@ invariant-conds-loop-tree l =
 
 abbrev pub invariant-sels-loop-tree : goal.invariant-sels-loop-tree
 invariant-sels-loop-tree l =
-    spec.sels_from (map (spec.sel (sight l.view)) (drop l.tree-index l.trees)) l.so_far ≡ spec.sels_from (map (spec.sel (sight l.view)) l.trees) l.fn.so_far
+    spec.sels_from (map (spec.sel (sight l.view)) (drop l.tree-index l.trees)) l.so_far l.binds ≡ spec.sels_from (map (spec.sel (sight l.view)) l.trees) l.fn.so_far l.fn.binds

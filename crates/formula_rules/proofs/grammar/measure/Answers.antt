@@ -1,6 +1,6 @@
 use Rattle.std.proofs.Common.{rules, ◌≡◌, Err}
 use Rattle.formula_rules.specs.Grammar.{IsMeasure}
-use Rattle.formula_rules.proofs.Told.{call_fails, call_open, call_told}
+use Rattle.formula_rules.proofs.Told.{call_fails, call_told}
 use Rattle.formula_rules.proofs.grammar.measure.Goals as goal
 
 pub returns-in_err-term-clause-told : goal.returns-in_err-term-clause-told

@@ -1,4 +1,4 @@
-use Rattle.std.proofs.Common.{◌≡◌, sym, ◌∙◌, ◌+◌}
+use Rattle.std.proofs.Common.{sym, ◌∙◌, ◌+◌}
 use Rattle.formula_rules.specs.Grammar.{term_of}
 use Rattle.formula_rules.proofs.Told.{one}
 use Rattle.formula_rules.proofs.grammar.short_term.Goals as goal

@@ -1,6 +1,6 @@
 use Rattle.std.proofs.Common.{ap, sym, ◌∙◌}
 use Rattle.std.specs.Option.{option_copied}
-use Rattle.apex_schema.specs.Rules.{rule_value}
+use Rattle.row_meaning.specs.Rules.{rule_value}
 use Rattle.formula_rules.proofs.Folds.{and_value, or_value}
 use Rattle.formula_rules.proofs.holds.+rule.Goals as goal
 

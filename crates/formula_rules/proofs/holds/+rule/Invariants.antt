@@ -1,7 +1,7 @@
 use Rattle.std.proofs.Common.{◌≡◌, drop}
 use Rattle.std.specs.List.{list_all, list_any}
 use Rattle.std.specs.Option.{option_copied}
-use Rattle.apex_schema.specs.Rules.{rule_value}
+use Rattle.row_meaning.specs.Rules.{rule_value}
 use Rattle.formula_rules.proofs.holds.+rule.Given as goal
 
 abbrev pub invariant-all_hold-loop-rule : goal.invariant-all_hold-loop-rule

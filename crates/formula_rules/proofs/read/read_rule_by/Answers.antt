@@ -1,5 +1,5 @@
 use Rattle.std.proofs.Common.{rules, ◌≡◌, false, Ok, Err}
-use Rattle.apex_schema.specs.Formulas.{rule_fits}
+use Rattle.schema_plans.specs.Formulas.{rule_fits}
 use Rattle.formula_rules.specs.Grammar.{field_names, IsFormulaWithin}
 use Rattle.formula_rules.specs.Readings.{IsWhole}
 use Rattle.formula_rules.proofs.Whole.{only, unread, unfit}

@@ -1,4 +1,4 @@
-use Rattle.std.proofs.Common.{rules, arith, ◌≡◌, ◌≤◌, ◌<◌, length, Ok, Err}
+use Rattle.std.proofs.Common.{rules, arith, ◌≡◌, Err}
 use Rattle.formula_rules.specs.Grammar.{IsFormulaWithin}
 use Rattle.formula_rules.proofs.Whole.{all_read, rest_left, not_read}
 use Rattle.formula_rules.proofs.read.whole.Goals as goal

@@ -1,5 +1,4 @@
-use Rattle.std.proofs.Common.{◌≡◌, ◌≤◌, take, drop, length, subst, sym, ap, ◌∙◌}
-use Rattle.formula_rules.specs.Tokens.{run, behind}
+use Rattle.std.proofs.Common.{◌≤◌, take, drop, length, subst, sym, ap, ◌∙◌}
 use Rattle.formula_rules.specs.Readings.{test_of}
 use Rattle.formula_rules.proofs.Runs.{take_run, drop_run, run_short}
 use Rattle.formula_rules.proofs.scan.run_length.Goals as goal

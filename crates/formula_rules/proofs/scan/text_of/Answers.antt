@@ -1,4 +1,4 @@
-use Rattle.std.proofs.Common.{rules, ◌≡◌, sym, ap, ◌∙◌, subst, Some}
+use Rattle.std.proofs.Common.{rules, ◌≡◌, sym, ap, ◌∙◌, Some}
 use Rattle.std.specs.Str.{IsUtf8}
 use Rattle.formula_rules.specs.Tokens.{text_of}
 use Rattle.formula_rules.proofs.Runs.{is_text, no_text}

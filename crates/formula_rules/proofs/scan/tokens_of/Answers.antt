@@ -1,6 +1,6 @@
-use Rattle.std.proofs.Common.{rules, arith, ◌≡◌, ◌≤◌, ◌++◌, ◌∷◌, [], drop, length, Some, Err}
+use Rattle.std.proofs.Common.{rules, ◌≡◌, ◌≤◌, [], drop, length, Some, Err}
 use Rattle.formula_rules.specs.Tokens.{behind, is_blank, token_at}
-use Rattle.formula_rules.proofs.Runs.{SoFar, one_token, all_tokens, no_tokens}
+use Rattle.formula_rules.proofs.Runs.{one_token, all_tokens, no_tokens}
 use Rattle.formula_rules.proofs.scan.tokens_of.Goals as goal
 
 pub returns-in_err-next : goal.returns-in_err-next

@@ -1,5 +1,5 @@
 use Rattle.std.proofs.Common.{ap, sym, ◌∙◌}
-use Rattle.apex_schema.specs.Formulas.{rule_fits}
+use Rattle.schema_plans.specs.Formulas.{rule_fits}
 use Rattle.formula_rules.proofs.Folds.{and_fits, or_fits}
 use Rattle.formula_rules.proofs.types.+fits.Goals as goal
 

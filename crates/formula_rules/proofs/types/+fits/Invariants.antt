@@ -1,6 +1,6 @@
 use Rattle.std.proofs.Common.{◌≡◌, drop}
 use Rattle.std.specs.List.{list_all}
-use Rattle.apex_schema.specs.Formulas.{rule_fits}
+use Rattle.schema_plans.specs.Formulas.{rule_fits}
 use Rattle.formula_rules.proofs.types.+fits.Given as goal
 
 abbrev pub invariant-all_fit-loop-rule : goal.invariant-all_fit-loop-rule

@@ -8,7 +8,7 @@ unreachable-requires c =
     let ls : length c.args.session ≡ 4 = search rules in
     let lr : length c.args.request ≡ 4 = search rules in
     let lc : length c.args.count ≡ 4 = search rules in
-    has_name c.args.prefix c.args.session c.args.request c.args.count lp ls lr lc c.requires.prefix c.requires.session c.requires.request c.requires.count c.in-None.ensures
+    has_name c.args.prefix c.args.session c.args.request c.args.count lp ls lr lc c.requires.prefix c.requires.session c.requires.request c.requires.count c.in-None.ensures.named
 
 pub returns : goal.returns
 returns c =
@@ -16,4 +16,4 @@ returns c =
     let ls : length c.args.session ≡ 4 = search rules in
     let lr : length c.args.request ≡ 4 = search rules in
     let lc : length c.args.count ≡ 4 = search rules in
-    named_is c.args.prefix c.args.session c.args.request c.args.count lp ls lr lc c.in-Some.id c.in-Some.ensures
+    named_is c.args.prefix c.args.session c.args.request c.args.count lp ls lr lc c.in-Some.id c.in-Some.ensures.named

@@ -9,7 +9,7 @@ returns-in-Some c =
     let n = c.in-Some.day in
     let range : to_z w32 (of_z w32 n) ≡ n = search rules in
     subst (λ m. Only (IsDayCell c.args.value.now) (Some (Day m))) (sym range)
-    (day_some c.args.value.now c.in-Text.text c.bytes.result.now c.in-Text.is c.bytes.ensures.value n c.in-Some.ensures.reads c.in-Some.ensures.only)
+    (day_some c.args.value.now c.in-Text.text c.bytes.result.now c.in-Text.is c.bytes.ensures.value n (sym c.in-Some.ensures))
 
 pub returns-in-None : goal.returns-in-None
-returns-in-None c = day_none c.args.value.now c.in-Text.text c.bytes.result.now c.in-Text.is c.bytes.ensures.value c.in-None.ensures.reads
+returns-in-None c = day_none c.args.value.now c.in-Text.text c.bytes.result.now c.in-Text.is c.bytes.ensures.value (sym c.in-None.ensures)

@@ -9,7 +9,7 @@ returns-in-Some c =
     let n = c.in-Some.moment in
     let range : to_z w64 (of_z w64 n) ≡ n = search rules in
     subst (λ m. Only (IsMomentCell c.args.value.now) (Some (Moment m))) (sym range)
-    (moment_some c.args.value.now c.in-Text.text c.bytes.result.now c.in-Text.is c.bytes.ensures.value n c.in-Some.ensures.reads c.in-Some.ensures.only)
+    (moment_some c.args.value.now c.in-Text.text c.bytes.result.now c.in-Text.is c.bytes.ensures.value n (sym c.in-Some.ensures))
 
 pub returns-in-None : goal.returns-in-None
-returns-in-None c = moment_none c.args.value.now c.in-Text.text c.bytes.result.now c.in-Text.is c.bytes.ensures.value c.in-None.ensures.reads
+returns-in-None c = moment_none c.args.value.now c.in-Text.text c.bytes.result.now c.in-Text.is c.bytes.ensures.value (sym c.in-None.ensures)

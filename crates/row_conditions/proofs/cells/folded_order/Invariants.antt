@@ -1,6 +1,6 @@
 use Rattle.std.proofs.Common.{◌≡◌, length}
 use Rattle.apex_text.specs.Fold.{folded}
-use Rattle.apex_schema.specs.Cells.{bytes_cmp}
+use Rattle.row_meaning.specs.Cells.{bytes_cmp}
 use Rattle.row_conditions.proofs.cells.folded_order.Given as goal
 
 abbrev pub invariant-bytes : goal.invariant-bytes

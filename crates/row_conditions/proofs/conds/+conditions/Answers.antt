@@ -1,5 +1,5 @@
 use Rattle.std.proofs.Common.{sym, ap, ◌∙◌}
-use Rattle.apex_schema.specs.Conds.{holds_of}
+use Rattle.row_meaning.specs.Conds.{holds_of}
 use Rattle.row_conditions.proofs.Folds.{all_value, any_value, ok_same}
 use Rattle.row_conditions.proofs.conds.+conditions.Goals as goal
 

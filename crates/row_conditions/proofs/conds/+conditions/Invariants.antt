@@ -1,7 +1,7 @@
 use Rattle.std.proofs.Common.{◌≡◌, drop}
 use Rattle.std.specs.List.{list_all, list_any}
-use Rattle.apex_schema.specs.declared.query.Cond.{Cond}
-use Rattle.apex_schema.specs.Conds.{holds_of}
+use Rattle.apex_rows.specs.declared.query.Cond.{Cond}
+use Rattle.row_meaning.specs.Conds.{holds_of}
 use Rattle.row_conditions.proofs.conds.+conditions.Given as goal
 
 abbrev pub invariant-all_hold-loop-cond : goal.invariant-all_hold-loop-cond

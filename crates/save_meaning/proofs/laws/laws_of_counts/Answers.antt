@@ -1,7 +1,7 @@
 use Rattle.std.proofs.Common.{ap}
 use Rattle.std.specs.Prelude.{min}
-use Rattle.apex_schema.specs.declared.query.Cond.TheVariants.{All}
-use Rattle.apex_schema.specs.Conds.{local_part}
+use Rattle.apex_rows.specs.declared.query.Cond.TheVariants.{All}
+use Rattle.row_meaning.specs.Conds.{local_part}
 use Rattle.save_meaning.specs.Counts.{count_most}
 use Rattle.save_meaning.proofs.Counting.{counted}
 use Rattle.save_meaning.proofs.Locals.{local_holds}

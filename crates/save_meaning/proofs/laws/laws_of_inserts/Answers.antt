@@ -5,5 +5,5 @@ use Rattle.save_meaning.proofs.laws.laws_of_inserts.Goals as goal
 
 pub returns : goal.returns
 returns c = record {
-  failed = λ schema session request user object rows t later why e. failed_insert alone (record { same = λ u s. refl; twice = λ t u s. refl; itself = λ s. refl }) schema session request user object rows t later why e;
+  failed = λ site object rows t later why e. failed_insert alone (record { same = λ u s. refl; twice = λ t u s. refl; itself = λ s. refl }) site object rows t later why e;
 }

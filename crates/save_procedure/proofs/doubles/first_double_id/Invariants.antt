@@ -1,7 +1,7 @@
 use Rattle.std.proofs.Common.{◌≡◌, ℕ, List, [], drop}
 use Rattle.std.specs.Prelude.{bytes_eq}
 use Rattle.indexmap.specs.IndexSet.{contains}
-use Rattle.apex_schema.specs.Stores.{has_id}
+use Rattle.row_meaning.specs.Stores.{has_id}
 use Rattle.save_meaning.specs.Inserts.{first_again}
 use Rattle.save_procedure.specs.Keys.{ids_given}
 use Rattle.save_procedure.proofs.doubles.first_double_id.Given as goal

@@ -1,7 +1,7 @@
 use Rattle.std.proofs.Common.{sym, ap, ◌∙◌}
 use Rattle.std.specs.Prelude.{eqb}
 use Rattle.indexmap.specs.IndexSet.{contains}
-use Rattle.apex_schema.specs.declared.request.SaveRow.{SaveRow}
+use Rattle.apex_requests.specs.declared.request.SaveRow.{SaveRow}
 use Rattle.save_procedure.proofs.Sets.{double_found}
 use Rattle.save_procedure.proofs.doubles.has_double.Goals as goal
 

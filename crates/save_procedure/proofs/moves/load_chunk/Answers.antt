@@ -4,5 +4,5 @@ use Rattle.save_procedure.proofs.moves.load_chunk.Goals as goal
 
 pub returns : goal.returns
 returns c =
-    chunk_does c.args.schema.now c.args.ticket c.args.object.now c.args.run c.args.txn.now c.in_ok-moved.moved _ c.requires.object
+    chunk_does c.args.schema.now c.args.ticket c.args.object.now c.args.run.now c.args.txn.now c.in_ok-moved.moved _ _ c.requires.object
     (λ e. true≢false (sym (c.is_empty.ensures.1 e) ∙ c.if-is_empty.false)) c.in_ok-moved.ensures

@@ -1,6 +1,6 @@
 use Rattle.std.proofs.Common.{◌≡◌, drop}
 use Rattle.save_meaning.specs.Drafts.{dangling}
-use Rattle.save_moves.specs.Moves.{found_in}
+use Rattle.save_meaning.specs.Moves.{found_in}
 use Rattle.save_procedure.proofs.references.dangling.Given as goal
 
 abbrev pub invariant-loop-one : goal.invariant-loop-one

@@ -1,7 +1,7 @@
 use Rattle.std.proofs.Common.{◌≡◌, ◌≤◌, ℕ, List, drop, length}
 use Rattle.std.specs.Prelude.{bytes_eq}
 use Rattle.indexmap.specs.IndexSet.{contains}
-use Rattle.apex_schema.specs.Stores.{has_id}
+use Rattle.row_meaning.specs.Stores.{has_id}
 use Rattle.save_meaning.specs.Inserts.{ids_of}
 use Rattle.save_procedure.proofs.references.ids_among.Given as goal
 

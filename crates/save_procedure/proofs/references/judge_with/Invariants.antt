@@ -1,6 +1,6 @@
 use Rattle.std.proofs.Common.{◌≡◌, ◌++◌}
 use Rattle.save_meaning.specs.Drafts.{judged, bad_reference}
-use Rattle.save_moves.specs.Moves.{found_in}
+use Rattle.save_meaning.specs.Moves.{found_in}
 use Rattle.save_procedure.proofs.references.judge_with.Given as goal
 
 abbrev pub invariant-loop-draft : goal.invariant-loop-draft

@@ -1,5 +1,5 @@
 use Rattle.std.proofs.Common.{◌≡◌, take}
-use Rattle.apex_schema.specs.Schemas.{numbered}
+use Rattle.schema_plans.specs.Schemas.{numbered}
 use Rattle.seed_rows.specs.Seeds.{or_default}
 use Rattle.seed_rows.proofs.row.filled.Given as goal
 

@@ -1,5 +1,5 @@
 use Rattle.std.proofs.Common.{◌≡◌, map, take}
-use Rattle.schema_places.specs.Names.{object_names}
+use Rattle.record_words.specs.Names.{object_names}
 use Rattle.seed_rows.specs.Views.{as_written}
 use Rattle.seed_rows.specs.Written as spec
 use Rattle.seed_rows.proofs.written.written.Given as goal

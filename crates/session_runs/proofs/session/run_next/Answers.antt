@@ -1,7 +1,7 @@
 use Rattle.std.proofs.Common.{subst}
 use Rattle.record_store.specs.Heaps.{rows_in}
 use Rattle.tenant_core.specs.Shards.{Ends, told_at}
-use Rattle.block_requests.proofs.Asked.{log_same}
+use Rattle.session_runs.proofs.Asked.{log_same}
 use Rattle.session_runs.proofs.Attempts.{log_whole, may_close, never_stale, run_is}
 use Rattle.session_runs.proofs.Legality.{may_start}
 use Rattle.session_runs.proofs.session.run_next.Goals as goal

@@ -1,4 +1,4 @@
-use Rattle.token_grammar.proofs.Chain.{next, halt, past, stuck, here, since, gives, raised}
+use Rattle.token_grammar.proofs.Chain.{next, halt, past, stuck, here, raised, ended, given}
 use Rattle.soql_parse.proofs.select.query_within.Goals as goal
 
 pub returns-in_err-select : goal.returns-in_err-select
@@ -14,4 +14,4 @@ pub returns-in_err-locked : goal.returns-in_err-locked
 returns-in_err-locked g c = raised c.from_residual-in_err-locked.ensures (here (past c.in_ok-behind.ensures (next c.in_ok-select.ensures (past c.in_ok-behind-2.ensures (next c.in_ok-source.ensures (halt (rw c.has_order.ensures at c.in_err-locked.ensures)))))))
 
 pub returns : goal.returns
-returns g c = rw c.query_tree.ensures (rw c.span_of-span.ensures (here (past c.in_ok-behind.ensures (next c.in_ok-select.ensures (past c.in_ok-behind-2.ensures (next c.in_ok-source.ensures (next (rw c.has_order.ensures at c.in_ok-locked.ensures) (since gives))))))))
+returns g c = here (past c.in_ok-behind.ensures (next c.in_ok-select.ensures (past c.in_ok-behind-2.ensures (next c.in_ok-source.ensures (next (rw c.has_order.ensures at c.in_ok-locked.ensures) (ended c.span_of-span.ensures (λ ts. given c.query_tree.ensures c.boxed.ensures)))))))

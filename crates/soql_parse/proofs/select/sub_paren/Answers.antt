@@ -8,4 +8,4 @@ pub returns-in_err-end : goal.returns-in_err-end
 returns-in_err-end g c = raised c.from_residual-in_err-end.ensures (here (next c.in_ok-inside.ensures.told (next c.in_ok-query.ensures (stuck c.in_err-end.ensures))))
 
 pub returns : goal.returns
-returns g c = rw c.in_ok-new.ensures (rw c.span_of-span.ensures (here (next c.in_ok-inside.ensures.told (next c.in_ok-query.ensures (past c.in_ok-end.ensures (since gives))))))
+returns g c = rw c.span_of-span.ensures (here (next c.in_ok-inside.ensures.told (next c.in_ok-query.ensures (past c.in_ok-end.ensures (since gives)))))

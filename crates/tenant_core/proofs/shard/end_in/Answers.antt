@@ -1,6 +1,6 @@
 use Rattle.std.proofs.Common.{◌≡◌, refl, sym, subst, Some}
 use Rattle.std.specs.Prelude.{OnOk, IsSome}
-use Rattle.session_trails.specs.States.{IsSession, Ends}
+use Rattle.tenant_trails.specs.States.{IsSession, Ends}
 use Rattle.tenant_trails.specs.Legal.{Session}
 use Rattle.tenant_core.specs.Shards.{kept_at, told_of, told_at}
 use Rattle.tenant_core.proofs.shard.end_in.Goals as goal

@@ -1,6 +1,6 @@
 use Rattle.std.proofs.Common.{rules, ◌≡◌, ◌++◌, ◌∷◌, [], map, Err, IsTrue, subst, sym, ap, ◌∙◌}
 use Rattle.std.proofs.lemmas.List.{map_push}
-use Rattle.apex_schema.specs.Formulas.{all_fit}
+use Rattle.schema_plans.specs.Formulas.{all_fit}
 use Rattle.tenant_schema.proofs.Steps.{all_fits, rule_fails}
 use Rattle.tenant_schema.proofs.deploy.deploy_schema.Goals as goal
 

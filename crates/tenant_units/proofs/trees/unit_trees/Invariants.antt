@@ -1,6 +1,6 @@
 use Rattle.std.proofs.Common.{take}
-use Rattle.tenant_units.specs.Trees.{AreUnits}
+use Rattle.tenant_units.proofs.Steps.{Each}
 use Rattle.tenant_units.proofs.trees.unit_trees.Given as goal
 
 abbrev pub invariant-units : goal.invariant-units
-invariant-units l = AreUnits (take l.i l.units) l.trees
+invariant-units l = Each (take l.i l.units) l.trees

@@ -1,4 +1,5 @@
 use Rattle.text_methods.proofs.LawSteps.{trims_both_ends, pads_to, repeated_size, numeric_is_digits, blank_is_white}
+use Rattle.text_methods.proofs.LawSides.{pads_its_side}
 use Rattle.text_methods.proofs.laws.laws_of_blanks.Goals as goal
 
 pub returns-clause-trim : goal.returns-clause-trim
@@ -15,3 +16,6 @@ returns-clause-numeric c = numeric_is_digits
 
 pub returns-clause-blank : goal.returns-clause-blank
 returns-clause-blank c = blank_is_white
+
+pub returns-clause-pad_side : goal.returns-clause-pad_side
+returns-clause-pad_side c = pads_its_side

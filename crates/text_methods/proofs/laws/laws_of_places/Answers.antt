@@ -1,4 +1,5 @@
 use Rattle.text_methods.proofs.LawSteps.{contains_splits, start_splits, end_splits, first_splits, last_splits, before_and_after, start_goes, end_goes}
+use Rattle.text_methods.proofs.LawSides.{first_from_ends, start_stays, end_stays}
 use Rattle.text_methods.proofs.laws.laws_of_places.Goals as goal
 
 pub returns-clause-contains : goal.returns-clause-contains
@@ -24,3 +25,12 @@ returns-clause-without_start c = start_goes
 
 pub returns-clause-without_end : goal.returns-clause-without_end
 returns-clause-without_end c = end_goes
+
+pub returns-clause-past_the_end : goal.returns-clause-past_the_end
+returns-clause-past_the_end c = first_from_ends
+
+pub returns-clause-start_stays : goal.returns-clause-start_stays
+returns-clause-start_stays c = start_stays
+
+pub returns-clause-end_stays : goal.returns-clause-end_stays
+returns-clause-end_stays c = end_stays

@@ -1,5 +1,5 @@
 use Rattle.std.proofs.Common.{◌≡◌}
-use Rattle.apex_schema.specs.Stores.{put_all, taken, without}
+use Rattle.row_meaning.specs.Stores.{put_all, taken, without}
 use Rattle.record_store.specs.Places.{HasRoom, rows_of}
 use Rattle.record_store.proofs.rows.TenantRows.apply.Given as goal
 

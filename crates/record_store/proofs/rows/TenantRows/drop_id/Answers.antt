@@ -1,5 +1,5 @@
 use Rattle.std.proofs.Common.{sym, ap, subst, [], ◌∷◌, ◌∙◌}
-use Rattle.apex_schema.specs.Stores.{without}
+use Rattle.row_meaning.specs.Stores.{without}
 use Rattle.record_store.specs.Places.{AllFit, rows_of}
 use Rattle.record_store.proofs.Steps.{removed_rows, removed_fit}
 use Rattle.record_store.proofs.rows.TenantRows.drop_id.Goals as goal

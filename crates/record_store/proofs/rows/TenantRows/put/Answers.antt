@@ -1,5 +1,5 @@
 use Rattle.std.proofs.Common.{sym, ap, subst, ◌∙◌}
-use Rattle.apex_schema.specs.Stores as S
+use Rattle.row_meaning.specs.Stores as S
 use Rattle.record_store.specs.Places.{AllFit, HasPlace, rows_of}
 use Rattle.record_store.proofs.Steps.{put_rows, put_fit, keys_stay}
 use Rattle.record_store.proofs.rows.TenantRows.put.Goals as goal

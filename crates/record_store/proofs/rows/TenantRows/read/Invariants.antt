@@ -1,6 +1,6 @@
 use Rattle.std.proofs.Common.{◌≡◌, map}
 use Rattle.std.specs.Map.Iter.{deref_pair}
-use Rattle.apex_schema.specs.Stores.{answer}
+use Rattle.row_meaning.specs.Stores.{answer}
 use Rattle.record_store.specs.Places.{rows_of}
 use Rattle.record_store.proofs.rows.TenantRows.read.Given as goal
 

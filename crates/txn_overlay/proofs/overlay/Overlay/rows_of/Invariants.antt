@@ -1,7 +1,7 @@
 use Rattle.std.proofs.Common.{◌≡◌, map}
 use Rattle.std.specs.Map.Iter.{deref_pair}
-use Rattle.apex_schema.specs.Stores.{of_object}
-use Rattle.apex_schema.specs.Overlays.{overlay_rows}
+use Rattle.row_meaning.specs.Stores.{of_object}
+use Rattle.row_meaning.specs.Overlays.{overlay_rows}
 use Rattle.txn_overlay.specs.Changes.{plain}
 use Rattle.txn_overlay.proofs.overlay.Overlay.rows_of.Given as goal
 

@@ -1,6 +1,6 @@
 use Rattle.std.proofs.Common.{ap, ◌∙◌}
-use Rattle.apex_schema.specs.Overlays.{touched_ids}
-use Rattle.apex_schema.specs.Stores.{has_id}
+use Rattle.row_meaning.specs.Overlays.{touched_ids}
+use Rattle.row_meaning.specs.Stores.{has_id}
 use Rattle.txn_overlay.proofs.Steps.{touched_is}
 use Rattle.txn_overlay.proofs.overlay.Overlay.touched.Goals as goal
 

@@ -1,6 +1,6 @@
 use Rattle.std.proofs.Common.{◌≡◌, ◌++◌}
-use Rattle.apex_schema.specs.Overlays.{touched_ids}
-use Rattle.apex_schema.specs.Stores.{without}
+use Rattle.row_meaning.specs.Overlays.{touched_ids}
+use Rattle.row_meaning.specs.Stores.{without}
 use Rattle.txn_overlay.proofs.overlay.Overlay.untouched.Given as goal
 
 abbrev pub invariant-loop-row : goal.invariant-loop-row

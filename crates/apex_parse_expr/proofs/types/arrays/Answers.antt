@@ -1,5 +1,0 @@
-use Rattle.apex_parse_expr.proofs.Pairs.{counted_more}
-use Rattle.apex_parse_expr.proofs.types.arrays.Goals as goal
-
-pub pairs-preserved : goal.pairs-preserved
-pairs-preserved c = counted_more c.pairs.invariant c.pairs-test.ensures c.in_ok-after.ensures

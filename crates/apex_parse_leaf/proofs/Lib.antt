@@ -1,0 +1,5 @@
+pub mod TypeMoves
+mod Pairs
+mod Looks
+mod Deep
+mod LookSteps

@@ -1,0 +1,4 @@
+pub mod Types
+pub mod Ends
+pub mod Casts
+pub mod Leaves

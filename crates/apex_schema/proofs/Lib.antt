@@ -1,9 +1,0 @@
-mod Samples
-mod PlanSamples
-mod PlaceSteps
-mod ChainSteps
-mod FirstSteps
-mod PrefixSteps
-mod ItemSteps
-mod RuleSteps
-mod FormulaSamples

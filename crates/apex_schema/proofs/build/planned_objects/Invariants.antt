@@ -1,6 +1,0 @@
-use Rattle.std.proofs.Common.{◌≡◌, ◌++◌, take, drop, map}
-use Rattle.apex_schema.specs.Schemas as made
-use Rattle.apex_schema.proofs.build.planned_objects.Given as goal
-
-abbrev pub invariant-objects : goal.invariant-objects
-invariant-objects l = l.all ++ made.numbered (made.object_of l.plan) l.i (drop l.i l.plan.objects) ≡ made.numbered (made.object_of l.plan) 0 l.plan.objects

@@ -1,6 +1,0 @@
-use Rattle.std.proofs.Common.{◌≡◌, [], drop}
-use Rattle.apex_schema.specs.Plans as spec
-use Rattle.apex_schema.proofs.faults.all_fields_fault.Given as goal
-
-abbrev pub invariant-objects : goal.invariant-objects
-invariant-objects l = spec.all_fields_fault l.plan 0 [] l.plan.objects ≡ spec.all_fields_fault l.plan l.i l.children.list.items (drop l.i l.plan.objects)

@@ -1,8 +1,0 @@
-use Rattle.std.proofs.Common.{ℕ, sym, ap, ◌∙◌, bytes_eq}
-use Rattle.apex_schema.specs.Names.{or_at}
-use Rattle.apex_schema.proofs.PlaceSteps.{one_place_more}
-use Rattle.apex_schema.proofs.places.map_of.Goals as goal
-
-pub loop-i-preserved : goal.loop-i-preserved
-loop-i-preserved c = λ n.
-    c.in_ok-add.ensures n ∙ ap (λ p. or_at p (bytes_eq c.index-names-i.result n) c.loop-i.i) (c.loop-i.invariant n) ∙ sym (one_place_more c.args.names.now c.loop-i.i c.index-names-i.result c.index-names-i.result n c.loop-i-test.true c.index-names-i.is)

@@ -1,7 +1,0 @@
-use Rattle.std.proofs.Common.{◌≡◌, ℕ, List, take, bytes_eq}
-use Rattle.indexmap.specs.IndexMap.{get}
-use Rattle.apex_schema.specs.Names.{place_of}
-use Rattle.apex_schema.proofs.places.map_of.Given as goal
-
-abbrev pub invariant-loop-i : goal.invariant-loop-i
-invariant-loop-i l = (n : List ℕ) → get bytes_eq l.map n ≡ place_of (take l.i l.names) n

@@ -1,7 +1,0 @@
-use Rattle.std.proofs.Common.{◌≡◌, take, map}
-use Rattle.apex_schema.specs.declared.plan.RolePlan.{RolePlan}
-use Rattle.apex_schema.specs.Plans.{named, role_names}
-use Rattle.apex_schema.proofs.roles.parents.Given as goal
-
-abbrev pub invariant-loop-role : goal.invariant-loop-role
-invariant-loop-role l = l.all.items ≡ map (λ (r : RolePlan). named (role_names l.plan) r.parent) (take l.role-index l.plan.roles)

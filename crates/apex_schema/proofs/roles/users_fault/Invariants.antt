@@ -1,6 +1,0 @@
-use Rattle.std.proofs.Common.{◌≡◌, drop}
-use Rattle.apex_schema.specs.Plans as spec
-use Rattle.apex_schema.proofs.roles.users_fault.Given as goal
-
-abbrev pub invariant-users : goal.invariant-users
-invariant-users l = spec.first_of (spec.user_fault l.plan) 0 l.plan.users ≡ spec.first_of (spec.user_fault l.plan) l.i (drop l.i l.plan.users)

@@ -1,7 +1,0 @@
--- When two children words are the same.
-use Rattle.std.specs.Prelude.{Bool}
-use Rattle.apex_schema.specs.declared.child.ChildWord.{ChildWord}
-use Rattle.apex_schema.specs.contracts.child.ChildWordPartialEq.TheImpl.{ghosts}
-
-abbrev pub child_eq : ChildWord → ChildWord → Bool
-child_eq = ghosts.eq

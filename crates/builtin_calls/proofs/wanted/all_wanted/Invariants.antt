@@ -1,7 +1,0 @@
-use Rattle.std.proofs.Common.{◌≡◌, map, take}
-use Rattle.builtin_calls.specs.Wants.{wanted}
-use Rattle.builtin_signatures.specs.Dues.{each}
-use Rattle.builtin_calls.proofs.wanted.all_wanted.Given as goal
-
-abbrev pub invariant-loop-i : goal.invariant-loop-i
-invariant-loop-i l = l.all ≡ map (wanted l.receiver) (take l.i (each l.dues))

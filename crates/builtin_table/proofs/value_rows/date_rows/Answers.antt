@@ -1,7 +1,0 @@
-use Rattle.std.proofs.Common.{refl}
-use Rattle.builtin_table.specs.Names.{date_methods}
-use Rattle.builtin_table.proofs.value_rows.date_rows.Goals as goal
-
-pub returns : goal.returns
-unfolding date_methods
-returns c = refl

@@ -1,7 +1,0 @@
-use Rattle.std.proofs.Common.{refl}
-use Rattle.builtin_table.specs.Names.{text_methods}
-use Rattle.builtin_table.proofs.value_rows.text_rows.Goals as goal
-
-pub returns : goal.returns
-unfolding text_methods
-returns c = refl

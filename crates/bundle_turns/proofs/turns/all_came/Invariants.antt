@@ -1,6 +1,0 @@
-use Rattle.std.proofs.Common.{eqb, length, take}
-use Rattle.bundle_turns.specs.Turns.{AllCome}
-use Rattle.bundle_turns.proofs.turns.all_came.Given as goal
-
-abbrev pub invariant-tenants : goal.invariant-tenants
-invariant-tenants l = AllCome (eqb (length l.tenants) 1) (take l.t l.tenants) l.faults l.all_images l.trails

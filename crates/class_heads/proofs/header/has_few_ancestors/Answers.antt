@@ -1,6 +1,0 @@
-use Rattle.class_heads.specs.Headers.{has_few_ancestors}
-use Rattle.class_heads.proofs.header.has_few_ancestors.Goals as goal
-
-pub returns : goal.returns
-unfolding has_few_ancestors
-returns c = c.ends_within.ensures

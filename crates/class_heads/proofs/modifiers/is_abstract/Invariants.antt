@@ -1,6 +1,0 @@
-use Rattle.std.proofs.Common.{◌≡◌, drop}
-use Rattle.class_heads.specs.Heads.{any_word, is_abstract_word}
-use Rattle.class_heads.proofs.modifiers.is_abstract.Given as goal
-
-abbrev pub invariant-loop-modifier : goal.invariant-loop-modifier
-invariant-loop-modifier l = any_word is_abstract_word (drop l.modifier-index l.modifiers) ≡ any_word is_abstract_word l.modifiers

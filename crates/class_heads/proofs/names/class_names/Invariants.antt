@@ -1,6 +1,0 @@
-use Rattle.std.proofs.Common.{◌≡◌, ◌++◌, drop}
-use Rattle.class_heads.specs.Heads.{class_names}
-use Rattle.class_heads.proofs.names.class_names.Given as goal
-
-abbrev pub invariant-loop-unit : goal.invariant-loop-unit
-invariant-loop-unit l = l.names.items ++ class_names (drop l.unit-index l.units) ≡ class_names l.units

@@ -1,6 +1,0 @@
-use Rattle.std.proofs.Common.{◌≡◌, take, map}
-use Rattle.class_heads.specs.Heads.{unit_name}
-use Rattle.class_heads.proofs.names.unit_names.Given as goal
-
-abbrev pub invariant-loop-unit : goal.invariant-loop-unit
-invariant-loop-unit l = l.names.items ≡ map unit_name (take l.unit-index l.units)

@@ -1,8 +1,0 @@
-use Rattle.std.proofs.Common.{◌≡◌, take}
-use Rattle.indexmap.specs.IndexMap.{get}
-use Rattle.class_members.specs.declared.key.MethodKey.{MethodKey}
-use Rattle.class_members.specs.Keys.{key_eq, place_of_key}
-use Rattle.class_members.proofs.key.map_of.Given as goal
-
-abbrev pub invariant-loop-i : goal.invariant-loop-i
-invariant-loop-i l = (k : MethodKey) → get key_eq l.map k ≡ place_of_key (take l.i l.keys) k

@@ -1,4 +1,0 @@
-use Rattle.class_members.proofs.tables.MemberTables.+field_within.Given as goal
-
-abbrev pub decreases-field_within : goal.decreases-field_within
-decreases-field_within l = l.most

@@ -1,5 +1,0 @@
-pub mod Modifiers
-pub mod Members
-pub mod Keys
-pub mod Lookups
-pub mod Tables

@@ -1,0 +1,6 @@
+use Rattle.std.proofs.Common.{◌≡◌, drop}
+use Rattle.class_tables.specs.Heads.{any_word, is_abstract_word}
+use Rattle.class_tables.proofs.modifiers.is_abstract.Given as goal
+
+abbrev pub invariant-loop-modifier : goal.invariant-loop-modifier
+invariant-loop-modifier l = any_word is_abstract_word (drop l.modifier-index l.modifiers) ≡ any_word is_abstract_word l.modifiers

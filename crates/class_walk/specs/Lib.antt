@@ -1,0 +1,9 @@
+pub mod Headers
+pub mod Signatures
+pub mod Overrides
+pub mod Missing
+pub mod Keys
+pub mod Duplicates
+pub mod SeenMembers
+pub mod Declarations
+pub mod Triggers

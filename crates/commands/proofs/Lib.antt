@@ -1,0 +1,4 @@
+mod Blocks
+mod Sessions
+mod Statuses
+mod Tenants

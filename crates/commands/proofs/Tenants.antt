@@ -1,0 +1,77 @@
+-- What tenants come to, one behind the other.
+use Rattle.std.proofs.Common.{◌≡◌, inl, inr, refl, ap, sym, subst, ◌∙◌, ℕ, suc, ◌+◌, ◌<◌, Bool, true, false, List, [], ◌∷◌, ◌++◌, length, take, get_or, Option, Some, Ok, Err}
+use Rattle.std.proofs.lemmas.List.{take_more}
+use Rattle.apex_requests.specs.declared.reply.Event.{Event}
+use Rattle.fault_words.specs.declared.fault.Fault.{Fault}
+use Rattle.bundle_read.specs.declared.entries.Bundle.{Bundle}
+use Rattle.bundle_read.specs.declared.entries.TenantPlan.{TenantPlan}
+use Rattle.bundle_read.specs.Bundles.{IsRead}
+use Rattle.tenant_parts.specs.declared.part.TenantPart.{TenantPart}
+use Rattle.tenant_front.specs.Parts.{IsPart, IsFrontFault}
+use Rattle.stack_code.specs.declared.code.Image.{Image}
+use Rattle.commands.specs.declared.turns.Book.{Book}
+use Rattle.commands.specs.Turns.{ComesBy, Comes, AllCome, part_not_yet, Runs, Refuses, RefusesBy, IsInput, bad_line, turns_not_yet}
+
+true_false : true ≡ false → ⊥
+true_false e = cc
+
+-- a tenant with a fault
+pub faulty : (built : Bool) (plan : TenantPlan) (f : Fault) → IsFrontFault plan f → ComesBy built plan (Some f) [] []
+faulty true plan f h = (refl, refl, inl h)
+faulty false plan f h = (refl, refl, inl h)
+
+pub unbuilt : (built : Bool) (plan : TenantPlan) (part : TenantPart) → built ≡ false → IsPart plan part → ComesBy built plan (Some part_not_yet) [] []
+unbuilt true plan part e h = (refl, refl, inr (e, (part, h), refl))
+unbuilt false plan part e h = (refl, refl, inr (e, (part, h), refl))
+
+all_more : (alone : Bool) (ps : List TenantPlan) (fs : List (Option Fault)) (is : List (List (Option Image))) (ts : List (List Event)) (p : TenantPlan) (f : Option Fault) (i : List (Option Image)) (t : List Event) → AllCome alone ps fs is ts → Comes alone p f i t → AllCome alone (ps ++ p ∷ []) (fs ++ f ∷ []) (is ++ i ∷ []) (ts ++ t ∷ [])
+all_more alone [] [] [] [] p f i t a c = (c, (refl, refl, refl))
+all_more alone [] (g ∷ gs) is ts p f i t a c = cc
+all_more alone [] [] (j ∷ js) ts p f i t a c = cc
+all_more alone [] [] [] (u ∷ us) p f i t a c = cc
+all_more alone (q ∷ qs) (g ∷ gs) (j ∷ js) (u ∷ us) p f i t a c = (a.0, all_more alone qs gs js us p f i t a.1 c)
+all_more alone (q ∷ qs) [] is ts p f i t a c = absurd a
+all_more alone (q ∷ qs) (g ∷ gs) [] ts p f i t a c = absurd a
+all_more alone (q ∷ qs) (g ∷ gs) (j ∷ js) [] p f i t a c = absurd a
+
+pub one_more : (alone : Bool) (ps : List TenantPlan) (n : ℕ) (p : TenantPlan) (fs gs : List (Option Fault)) (is js : List (List (Option Image))) (ts us : List (List Event)) (f : Option Fault) (i : List (Option Image)) (t : List Event)
+    → n < length ps → p ≡ get_or ps n p → AllCome alone (take n ps) fs is ts → Comes alone p f i t → gs ≡ fs ++ f ∷ [] → js ≡ is ++ i ∷ [] → us ≡ ts ++ t ∷ [] → AllCome alone (take (n + 1) ps) gs js us
+one_more alone ps n p fs gs is js ts us f i t lt here a c g j u =
+    subst (λ qs. AllCome alone qs gs js us) (sym (take_more ps n p lt ∙ ap (λ q. take n ps ++ q ∷ []) (sym here)))
+    (subst (λ hs. AllCome alone (take n ps ++ p ∷ []) hs js us) (sym g)
+    (subst (λ ks. AllCome alone (take n ps ++ p ∷ []) (fs ++ f ∷ []) ks us) (sym j)
+    (subst (λ vs. AllCome alone (take n ps ++ p ∷ []) (fs ++ f ∷ []) (is ++ i ∷ []) vs) (sym u)
+    (all_more alone (take n ps) fs is ts p f i t a c))))
+
+-- a bundle that is read is no other, and has no fault
+pub refuses_bytes : (bytes line : List ℕ) (f : Fault) → IsRead bytes (Err f) → ((b : Bundle) → IsRead bytes (Ok b) → ⊥) → (listed : Bool) → line ≡ bad_line f → Refuses listed bytes line
+refuses_bytes bytes line f is none true l = record { fault = f; why = inl is; is = l }
+refuses_bytes bytes line f is none false l = record { fault = f; why = (is, none); is = l }
+
+pub refuses_list : (bytes line : List ℕ) (b : Bundle) (listed : Bool) → listed ≡ true → IsRead bytes (Ok b) → line ≡ bad_line turns_not_yet → Refuses listed bytes line
+refuses_list bytes line b true e is l = record { fault = turns_not_yet; why = inr ((b, is), refl); is = l }
+refuses_list bytes line b false e is l = cc
+
+pub runs_input : (listed : Bool) (book : Book) (bytes text : List ℕ) → Runs listed book bytes text → IsInput listed bytes
+runs_input listed book bytes text r = record { unlisted = r.unlisted; bundle = r.bundle; is = r.is_bundle }
+
+refused_by : (listed : Bool) (bytes : List ℕ) (f : Fault) → RefusesBy listed bytes f → IsInput listed bytes → ⊥
+refused_by true bytes f w i = true_false i.unlisted
+refused_by false bytes f w i = w.1 i.bundle i.is
+
+pub none_refused : (listed : Bool) (bytes line : List ℕ) → Refuses listed bytes line → IsInput listed bytes → ⊥
+none_refused listed bytes line r i = refused_by listed bytes r.fault r.why i
+
+pub as_many_faults : (alone : Bool) (ps : List TenantPlan) (fs : List (Option Fault)) (is : List (List (Option Image))) (ts : List (List Event)) → AllCome alone ps fs is ts → length fs ≡ length ps
+as_many_faults alone [] fs is ts a = ap length a.0
+as_many_faults alone (p ∷ ps) (f ∷ fs) (i ∷ is) (t ∷ ts) a = ap suc (as_many_faults alone ps fs is ts a.1)
+as_many_faults alone (p ∷ ps) [] is ts a = absurd a
+as_many_faults alone (p ∷ ps) (f ∷ fs) [] ts a = absurd a
+as_many_faults alone (p ∷ ps) (f ∷ fs) (i ∷ is) [] a = absurd a
+
+pub as_many_trails : (alone : Bool) (ps : List TenantPlan) (fs : List (Option Fault)) (is : List (List (Option Image))) (ts : List (List Event)) → AllCome alone ps fs is ts → length ts ≡ length ps
+as_many_trails alone [] fs is ts a = ap length a.2
+as_many_trails alone (p ∷ ps) (f ∷ fs) (i ∷ is) (t ∷ ts) a = ap suc (as_many_trails alone ps fs is ts a.1)
+as_many_trails alone (p ∷ ps) [] is ts a = absurd a
+as_many_trails alone (p ∷ ps) (f ∷ fs) [] ts a = absurd a
+as_many_trails alone (p ∷ ps) (f ∷ fs) (i ∷ is) [] a = absurd a

@@ -1,0 +1,65 @@
+-- Which tenants are run so far (docs/formats.md, "What is built").
+use Rattle.std.specs.Prelude.{◌&&◌, Bool, true, false, List, [], ◌∷◌}
+use Rattle.std.specs.List.{list_all}
+use Rattle.schema_plans.specs.declared.plan.FieldPlan.{FieldPlan}
+use Rattle.schema_plans.specs.declared.plan.ObjectPlan.{ObjectPlan}
+use Rattle.schema_plans.specs.declared.plan.PlanKind.{PlanKind}
+use Rattle.schema_plans.specs.declared.plan.PlanKind.TheVariants as Kind
+use Rattle.schema_plans.specs.declared.plan.SchemaPlan.{SchemaPlan}
+use Rattle.apex_schema.specs.declared.schema.Access.{Access}
+use Rattle.apex_schema.specs.declared.schema.Access.TheVariants as Default
+use Rattle.bundle_read.specs.declared.entries.RequestEntry.{RequestEntry}
+use Rattle.bundle_read.specs.declared.entries.SessionEntry.{SessionEntry}
+use Rattle.bundle_read.specs.declared.entries.TenantPlan.{TenantPlan}
+use Rattle.bundle_read.specs.declared.entries.WorkEntry.{WorkEntry}
+use Rattle.bundle_read.specs.declared.entries.WorkEntry.TheVariants.{Apex, Save}
+
+abbrev pub is_none : {A : Type 0} → List A → Bool
+is_none [] = true
+is_none (x ∷ xs) = false
+
+-- its values lead to no other row, and come from none
+abbrev pub is_plain_kind : PlanKind → Bool
+is_plain_kind Kind.Text = true
+is_plain_kind Kind.Number = true
+is_plain_kind Kind.Checkbox = true
+is_plain_kind Kind.Date = true
+is_plain_kind Kind.Datetime = true
+is_plain_kind Kind.Lookup = false
+is_plain_kind Kind.MasterDetail = false
+is_plain_kind Kind.Rollup = false
+
+abbrev pub is_plain_field : FieldPlan → Bool
+is_plain_field f = is_plain_kind f.kind
+
+-- everybody may see the rows
+abbrev pub is_seen : Access → Bool
+is_seen Default.Nothing = false
+is_seen Default.Read = true
+is_seen Default.Edit = true
+
+abbrev pub is_plain_object : ObjectPlan → Bool
+is_plain_object o = is_seen o.default && list_all is_plain_field o.fields
+
+abbrev pub is_plain_schema : SchemaPlan → Bool
+is_plain_schema p = list_all is_plain_object p.objects
+
+abbrev pub is_block : WorkEntry → Bool
+is_block (Apex text) = true
+is_block (Save save) = false
+
+abbrev pub is_plain_request : RequestEntry → Bool
+is_plain_request r = is_block r.work
+
+abbrev pub is_plain_session : SessionEntry → Bool
+is_plain_session s = list_all is_plain_request s.requests
+
+-- at most one
+abbrev pub are_few : List SessionEntry → Bool
+are_few [] = true
+are_few (s ∷ []) = is_plain_session s
+are_few (s ∷ t ∷ ss) = false
+
+-- a tenant without code, and with one session at most, whose requests are blocks
+abbrev pub is_built : TenantPlan → Bool
+is_built t = is_plain_schema t.schema && is_none t.units && are_few t.sessions

@@ -1,0 +1,7 @@
+pub mod Answers
+pub mod Built
+pub mod Commands
+pub mod Exec
+pub mod Made
+pub mod Turns
+pub mod Words

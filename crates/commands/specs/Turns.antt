@@ -1,0 +1,91 @@
+-- What the answers of `turns` say (docs/promises.md).
+use Rattle.std.specs.Prelude.{◌≡◌, ◌⊎◌, ◌&&◌, ℕ, eqb, Bool, true, false, List, [], ◌∷◌, ◌++◌, codes, length, Option, None, Some, Ok, Err}
+use Rattle.apex_requests.specs.declared.reply.Event.{Event}
+use Rattle.fault_words.specs.declared.fault.Fault.{Fault}
+use Rattle.fault_words.specs.declared.fault.FaultWord.TheVariants.{NotYet}
+use Rattle.bundle_read.specs.declared.entries.Bundle.{Bundle}
+use Rattle.bundle_read.specs.declared.entries.TenantPlan.{TenantPlan}
+use Rattle.bundle_read.specs.Bundles.{IsRead}
+use Rattle.reply_text.specs.Lines.{escaped, word_text}
+use Rattle.reply_text.specs.Reports.{report}
+use Rattle.tenant_parts.specs.declared.part.TenantPart.{TenantPart}
+use Rattle.tenant_front.specs.Parts.{IsPart, IsFrontFault}
+use Rattle.tenant_runs.specs.Tenants.{IsRan}
+use Rattle.stack_code.specs.declared.code.Image.{Image}
+use Rattle.commands.specs.declared.answer.Made.{Made}
+use Rattle.commands.specs.declared.answer.Made.TheVariants.{Text, Line}
+use Rattle.commands.specs.Answers.{Answered, Outside}
+use Rattle.commands.specs.declared.turns.Book.{Book}
+use Rattle.commands.specs.Built.{is_built}
+
+-- ---- what a tenant comes to
+
+-- a form that isn't built
+abbrev pub not_yet_at : List ℕ → Fault
+not_yet_at place = record { place = place; word = NotYet }
+
+abbrev pub part_not_yet : Fault
+part_not_yet = not_yet_at (codes "part")
+
+-- a tenant is deployed, its blocks are compiled, and it has its trail where it is alone in its bundle and built; otherwise it
+-- has a fault, no code and no events. What isn't built is told only where nothing else is wrong
+abbrev pub ComesBy : Bool → TenantPlan → Option Fault → List (Option Image) → List Event → Type 0
+ComesBy true plan None images trail = (part : TenantPart) × IsPart plan part × IsRan part images trail
+ComesBy false plan None images trail = ⊥
+ComesBy built plan (Some f) images trail = (images ≡ []) × (trail ≡ []) × (IsFrontFault plan f ⊎ ((built ≡ false) × ((part : TenantPart) × IsPart plan part) × (f ≡ part_not_yet)))
+
+abbrev pub Comes : Bool → TenantPlan → Option Fault → List (Option Image) → List Event → Type 0
+Comes alone plan fault images trail = ComesBy (alone && is_built plan) plan fault images trail
+
+abbrev pub AllCome : Bool → List TenantPlan → List (Option Fault) → List (List (Option Image)) → List (List Event) → Type 0
+AllCome alone [] faults images trails = (faults ≡ []) × (images ≡ []) × (trails ≡ [])
+AllCome alone (p ∷ ps) (f ∷ fs) (i ∷ is) (t ∷ ts) = Comes alone p f i t × AllCome alone ps fs is ts
+AllCome alone (p ∷ ps) _ _ _ = ⊥
+
+-- ---- what a bundle comes to
+
+-- the images and the trails in the book are those of its tenants, and the text tells the trails
+pub record IsRun (bundle : Bundle) (book : Book) (text : List ℕ) : Type 0 where
+  pub faults : List (Option Fault)
+  pub all : AllCome (eqb (length bundle.tenants) 1) bundle.tenants faults book.images book.trails
+  pub prints : text ≡ report bundle.tenants faults book.trails
+
+abbrev pub IsRunText : Bundle → Book → Made → Type 0
+IsRunText bundle book (Text text) = IsRun bundle book text
+IsRunText bundle book (Line line) = ⊥
+
+-- the bytes are a bundle; and a list of turns isn't built, so there is none
+pub record Runs (listed : Bool) (book : Book) (bytes text : List ℕ) : Type 0 where
+  pub unlisted : listed ≡ false
+  pub bundle : Bundle
+  pub is_bundle : IsRead bytes (Ok bundle)
+  pub run : IsRun bundle book text
+
+abbrev pub bad_line : Fault → List ℕ
+bad_line f = codes "bad bundle at " ++ escaped f.place ++ codes ": " ++ word_text f.word ++ 10 ∷ []
+
+abbrev pub bad_made : Fault → Made
+bad_made f = Line (bad_line f)
+
+abbrev pub turns_not_yet : Fault
+turns_not_yet = not_yet_at (codes "turns")
+
+-- the bytes are no bundle, and the line tells their first fault; or they are one, and the list isn't built
+abbrev pub RefusesBy : Bool → List ℕ → Fault → Type 0
+RefusesBy true bytes fault = IsRead bytes (Err fault) ⊎ (((bundle : Bundle) × IsRead bytes (Ok bundle)) × (fault ≡ turns_not_yet))
+RefusesBy false bytes fault = IsRead bytes (Err fault) × ((bundle : Bundle) → IsRead bytes (Ok bundle) → ⊥)
+
+pub record Refuses (listed : Bool) (bytes line : List ℕ) : Type 0 where
+  pub fault : Fault
+  pub why : RefusesBy listed bytes fault
+  pub is : line ≡ bad_line fault
+
+-- the bytes are a bundle that is run
+pub record IsInput (listed : Bool) (bytes : List ℕ) : Type 0 where
+  pub unlisted : listed ≡ false
+  pub bundle : Bundle
+  pub is : IsRead bytes (Ok bundle)
+
+-- a status of `turns`, with a list or without, and the book after it
+abbrev pub Turns : Bool → Book → ℕ → Outside → Type 0
+Turns listed book status s = Answered (Runs listed book) (Refuses listed) 3 (IsInput listed) status s

@@ -1,3 +1,0 @@
-mod Search
-mod Told
-mod LawSteps

@@ -1,3 +1,0 @@
-pub mod Methods
-pub mod Values
-pub mod Laws

@@ -1,4 +1,0 @@
-pub mod Keys
-pub mod Duplicates
-pub mod SeenMembers
-pub mod Declarations

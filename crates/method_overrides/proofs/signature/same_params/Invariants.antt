@@ -1,6 +1,0 @@
-use Rattle.std.proofs.Common.{◌≡◌, drop}
-use Rattle.method_overrides.specs.Signatures.{same_params}
-use Rattle.method_overrides.proofs.signature.same_params.Given as goal
-
-abbrev pub invariant-loop-i : goal.invariant-loop-i
-invariant-loop-i l = same_params (drop l.i l.ones) (drop l.i l.others) ≡ same_params l.ones l.others

@@ -1,4 +1,0 @@
-use Rattle.missing_methods.proofs.promised.+promised_within.Given as goal
-
-abbrev pub decreases-promised_within : goal.decreases-promised_within
-decreases-promised_within l = l.most

@@ -1,8 +1,0 @@
-use Rattle.std.proofs.Common.{◌≡◌, drop}
-use Rattle.std.specs.List.{list_any}
-use Rattle.class_members.specs.Tables.{all_in}
-use Rattle.missing_methods.specs.Missing as spec
-use Rattle.missing_methods.proofs.promised.any_lacks.Given as goal
-
-abbrev pub invariant-loop-interface : goal.invariant-loop-interface
-invariant-loop-interface l = list_any (spec.lacks_for (all_in l.tables) l.lines.heads l.class) (drop l.interface-index l.interfaces) ≡ list_any (spec.lacks_for (all_in l.tables) l.lines.heads l.class) l.interfaces

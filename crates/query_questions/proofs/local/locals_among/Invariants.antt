@@ -1,7 +1,0 @@
-use Rattle.std.proofs.Common.{◌≡◌, ◌++◌, drop}
-use Rattle.std.specs.Prelude.{filter}
-use Rattle.apex_schema.specs.Conds.{is_local}
-use Rattle.query_questions.proofs.local.locals_among.Given as goal
-
-abbrev pub invariant-loop-cond : goal.invariant-loop-cond
-invariant-loop-cond l = l.all ++ filter is_local (drop l.cond-index l.conds) ≡ filter is_local l.conds

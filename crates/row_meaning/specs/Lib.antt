@@ -1,0 +1,9 @@
+pub mod Accesses
+pub mod Cells
+pub mod Conds
+pub mod Overlays
+pub mod Queries
+pub mod Rollups
+pub mod Rules
+pub mod Stores
+pub mod Users

@@ -1,0 +1,6 @@
+mod ChainSteps
+mod FirstSteps
+mod HeightSteps
+mod NumberSteps
+mod PrefixSteps
+mod RuleSteps

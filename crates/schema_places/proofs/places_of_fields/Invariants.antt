@@ -1,6 +1,0 @@
-use Rattle.std.proofs.Common.{◌≡◌, map, take}
-use Rattle.schema_places.specs.Names.{names_in, all_field_names}
-use Rattle.schema_places.proofs.places_of_fields.Given as goal
-
-abbrev pub invariant-loop-object : goal.invariant-loop-object
-invariant-loop-object l = map names_in l.all.items ≡ all_field_names (take l.object-index l.objects)

@@ -1,0 +1,5 @@
+pub mod Children
+pub mod Formulas
+pub mod Plans
+pub mod Schemas
+pub mod Validity

@@ -1,0 +1,4 @@
+mod FormulaSamples
+mod PlanSamples
+mod Samples
+mod RuleSamples

@@ -1,0 +1,2 @@
+//! Samples of the definitions of schemas, rows, queries and rules.
+#![tactic(auto)]

@@ -1,9 +1,0 @@
-pub mod Bools
-pub mod Chains
-pub mod Exprs
-pub mod Keywords
-pub mod Resolves
-pub mod Slots
-pub mod Stmts
-pub mod Whole
-pub mod Narrow

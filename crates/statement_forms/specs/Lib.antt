@@ -1,3 +1,0 @@
-pub mod Saves
-pub mod Flows
-pub mod Constructions

@@ -1,0 +1,10 @@
+pub mod Arguments
+pub mod DeclaredCalls
+pub mod Makers
+pub mod Copies
+pub mod Made
+pub mod Widths
+pub mod Admissions
+pub mod Wants
+pub mod Answered
+pub mod BuiltinCalls

@@ -1,5 +1,0 @@
-pub mod Simulates
-pub mod Trees
-pub mod Feeds
-pub mod Correct
-pub mod Emits

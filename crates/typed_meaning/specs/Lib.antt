@@ -1,6 +1,0 @@
-pub mod States
-pub mod Values
-pub mod Expressions
-pub mod Statements
-pub mod Runs
-pub mod Laws

@@ -1,9 +1,0 @@
-use Rattle.std.proofs.Common.{◌≡◌, drop}
-use Rattle.body_walk.specs.Homes.{home}
-use Rattle.unit_walk.specs.Members.{members_from}
-use Rattle.unit_walk.proofs.member.members.Given as goal
-
-abbrev pub invariant-loop-i : goal.invariant-loop-i
-invariant-loop-i l =
-    members_from (home l.home) l.class l.name l.flags l.i (drop l.i l.trees) l.so_far
-    ≡ members_from (home l.home) l.class l.name l.flags 0 l.trees l.fn.so_far

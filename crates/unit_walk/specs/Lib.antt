@@ -1,3 +1,0 @@
-pub mod OpenClasses
-pub mod Members
-pub mod Units
