@@ -1,5 +1,6 @@
 -- Blocks by hand.
-use Rattle.std.proofs.Common.{◌≡◌, refl, ℕ, true, false, List, [], ◌∷◌, codes, pos, None, Some}
+use Rattle.std.proofs.Common.{◌≡◌, refl, ℕ, true, false, List, [], ◌∷◌, codes, ℤ, pos, negsuc, None, Some}
+use Rattle.std.specs.Int.{int_wrap}
 use Rattle.std.specs.Str.{is_utf8}
 use Rattle.std.proofs.lemmas.Str.{is_utf8-from_IsUtf8}
 use Rattle.apex_num.specs.declared.cell.Cell.TheVariants as C
@@ -8,7 +9,7 @@ use Rattle.apex_rows.specs.declared.query.Cond.{Cond}
 use Rattle.apex_rows.specs.declared.query.Cond.TheOpen.{Cond-F}
 use Rattle.apex_rows.specs.declared.query.Cond.TheViews.{roll-Cond}
 use Rattle.apex_rows.specs.declared.query.Cond.TheFolds.{fold-roll-Cond}
-use Rattle.apex_rows.specs.declared.query.CondOp.TheVariants.{Equal}
+use Rattle.apex_rows.specs.declared.query.CondOp.TheVariants as CondOp
 use Rattle.apex_rows.specs.declared.query.Query.{Query}
 use Rattle.apex_rows.specs.declared.query.Query.TheViews.{roll-Query, out-roll-Query}
 use Rattle.apex_rows.specs.declared.query.Term.TheVariants.{Given}
@@ -33,19 +34,20 @@ use Rattle.typed_program.specs.declared.stmt.Saved.TheVariants.{One, Many}
 use Rattle.typed_program.specs.declared.stmt.TypedStmt.{TypedStmt}
 use Rattle.typed_program.specs.declared.stmt.TypedStmt.TheOpen.{TypedStmt-F}
 use Rattle.typed_program.specs.declared.stmt.TypedStmt.TheViews.{roll-TypedStmt}
-use Rattle.typed_program.specs.declared.expr.Arithmetic.TheVariants.{Minus as Less, Over}
+use Rattle.typed_program.specs.declared.expr.Arithmetic.TheVariants.{Plus, Minus as Less, Over}
 use Rattle.typed_program.specs.declared.expr.CollectionKind.TheVariants as Kinds
 use Rattle.typed_program.specs.declared.expr.Constant.{Constant}
 use Rattle.typed_program.specs.declared.expr.Constant.TheVariants as K
 use Rattle.typed_program.specs.declared.expr.Conversion.TheVariants.{Same}
 use Rattle.typed_program.specs.declared.expr.Number.TheVariants.{Integer}
-use Rattle.typed_program.specs.declared.expr.TypedOp.TheVariants.{Arithmetic}
+use Rattle.typed_program.specs.declared.expr.TypedOp.TheVariants.{Arithmetic, Join, Equal}
 use Rattle.typed_program.specs.declared.expr.TypedExpr.{TypedExpr}
 use Rattle.typed_program.specs.declared.expr.TypedPair.{TypedPair}
-use Rattle.typed_program.specs.declared.expr.TypedBind.TheOpen.{TypedExpr-F, TypedNew-F}
-use Rattle.typed_program.specs.declared.expr.TypedBind.TheViews.{roll-TypedExpr, roll-TypedNew, roll-TypedOperand, roll-TypedPair}
+use Rattle.typed_program.specs.declared.expr.TypedPlace.{TypedPlace}
+use Rattle.typed_program.specs.declared.expr.TypedBind.TheOpen.{TypedExpr-F, TypedNew-F, TypedPlace-F}
+use Rattle.typed_program.specs.declared.expr.TypedBind.TheViews.{roll-TypedExpr, roll-TypedNew, roll-TypedOperand, roll-TypedPair, roll-TypedPlace}
 use Rattle.apex_meaning.specs.Runs.{block_run}
-use Rattle.apex_meaning.proofs.Equations.{value-Constant, value-Local, value-Chain, value-New, value-Debug, value-Query, new-Record, new-List, operand-is, pair-is, does-Declare, does-Expr, does-Insert}
+use Rattle.apex_meaning.proofs.Equations.{value-Constant, value-Local, value-Chain, value-New, value-Debug, value-Query, value-Step, value-AssignWith, place-Local, new-Record, new-List, operand-is, pair-is, does-Declare, does-Expr, does-Insert}
 
 -- Account with a required Name, and Size with a number
 abbrev account : Object
@@ -104,10 +106,10 @@ abbrev says : TypedExpr → TypedStmt
 says e = roll-TypedStmt (TypedStmt-F.Expr (roll-TypedExpr (TypedExpr-F.Debug e)))
 
 abbrev local : ℕ → TypedExpr
-local x = roll-TypedExpr (TypedExpr-F.Local x)
+local x = roll-TypedExpr (TypedExpr-F.TypedExpr::Local x)
 
 abbrev width_is : ℕ → Cond
-width_is n = roll-Cond (Cond-F.Compare (record { parents = []; field = 2 }) Equal (Given (C.Num (pos n))))
+width_is n = roll-Cond (Cond-F.Compare (record { parents = []; field = 2 }) CondOp.Equal (Given (C.Num (pos n))))
 
 abbrev count_of : Cond → Query
 count_of c = roll-Query (record { object = 1; counted = true; paths = []; children = []; cond = c; keys = []; limit = None; offset = None; locked = false })
@@ -143,15 +145,16 @@ sees_its_own = simp (does-Insert, does-Declare, value-Constant, value-New, value
 
 -- one row is counted, since 1 / (n - 1) throws
 abbrev less_one : TypedExpr → TypedExpr
-less_one e = roll-TypedExpr (TypedExpr-F.Chain e (roll-TypedOperand (record { left = Same; op = Arithmetic Less Integer; right = constant (K.Whole (pos 1)) }) ∷ []))
+less_one e = roll-TypedExpr (TypedExpr-F.Chain e (roll-TypedOperand (record { left = Same; op = Arithmetic Less Integer; right = Same; value = constant (K.Whole (pos 1)) }) ∷ []))
 
 abbrev one_over : TypedExpr → TypedExpr
-one_over e = roll-TypedExpr (TypedExpr-F.Chain (constant (K.Whole (pos 1))) (roll-TypedOperand (record { left = Same; op = Arithmetic Over Integer; right = e }) ∷ []))
+one_over e = roll-TypedExpr (TypedExpr-F.Chain (constant (K.Whole (pos 1))) (roll-TypedOperand (record { left = Same; op = Arithmetic Over Integer; right = Same; value = e }) ∷ []))
 
 abbrev stored : Row
 stored = record { object = 1; id = codes "a01000000000001"; cells = C.Id (codes "a01000000000001") ∷ C.Id (user_id 0) ∷ C.Num (pos 5) ∷ [] }
 
 counts_one : told (block_run here (declares 0 (one_over (less_one (counted (width_is 5)))) ∷ []) (RowsOf (stored ∷ []) ∷ [])) ≡ Came (Thrown (codes "MathException") (codes "Divide by 0")) (record zero_counts { queries = 1; rows = 1; steps = 1 }) []
+unfolding int_wrap
 counts_one = simp (does-Declare, value-Constant, value-Chain, value-Query, operand-is, out-roll-Query, fold-roll-Cond) refl
 
 -- a list of two: one statement, two rows, fourteen steps and one for the statement
@@ -182,4 +185,26 @@ utf8_b = is_utf8-from_IsUtf8 (codes "b") (codes "b", (refl, refl))
 
 -- System.debug('a'); Integer x = 1 / (2 - 1 - 1); what follows isn't run
 stops : told (block_run here (says (constant (K.Text (codes "a"))) ∷ declares 0 (one_over (less_one (less_one (constant (K.Whole (pos 2)))))) ∷ says (constant (K.Text (codes "b"))) ∷ []) []) ≡ Came (Thrown (codes "MathException") (codes "Divide by 0")) (record zero_counts { steps = 2 }) (codes "a" ∷ [])
+unfolding int_wrap
 stops = simp (does-Expr, does-Declare, utf8_a, utf8_b, value-Constant, value-Chain, value-Debug, operand-is) refl
+
+-- Integer x = 2147483647; System.debug(x++ == 2147483647); System.debug((x += 1) == -2147483647); the sum wraps
+abbrev first_local : TypedPlace
+first_local = roll-TypedPlace (TypedPlace-F.TypedPlace::Local 0)
+
+abbrev step_up : TypedExpr
+step_up = roll-TypedExpr (TypedExpr-F.Step (record { up = true; before = false }) Integer first_local)
+
+abbrev one_more : TypedExpr
+one_more = roll-TypedExpr (TypedExpr-F.AssignWith first_local (record { left = Same; op = Arithmetic Plus Integer; right = Same; back = Same }) (constant (K.Whole (pos 1))))
+
+abbrev is_equal : TypedExpr → ℤ → TypedExpr
+is_equal e n = roll-TypedExpr (TypedExpr-F.Chain e (roll-TypedOperand (record { left = Same; op = Equal; right = Same; value = constant (K.Whole n) }) ∷ []))
+
+wraps : told (block_run here (declares 0 (constant (K.Whole (pos 2147483647))) ∷ says (is_equal step_up (pos 2147483647)) ∷ says (is_equal one_more (negsuc 2147483646)) ∷ []) []) ≡ Came Ok (record zero_counts { steps = 3 }) (codes "true" ∷ codes "true" ∷ [])
+unfolding int_wrap
+wraps = simp (does-Expr, does-Declare, value-Constant, value-Chain, value-Debug, value-Step, value-AssignWith, place-Local, operand-is) refl
+
+-- System.debug('a' + 'b');
+joins : told (block_run here (says (roll-TypedExpr (TypedExpr-F.Chain (constant (K.Text (codes "a"))) (roll-TypedOperand (record { left = Same; op = Join; right = Same; value = constant (K.Text (codes "b")) }) ∷ []))) ∷ []) []) ≡ Came Ok (record zero_counts { steps = 1 }) (codes "ab" ∷ [])
+joins = simp (does-Expr, utf8_a, utf8_b, value-Constant, value-Chain, value-Debug, operand-is) refl

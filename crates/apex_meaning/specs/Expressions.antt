@@ -1,5 +1,5 @@
 -- What expressions do (docs/language.md, "What code does").
-use Rattle.std.specs.Prelude.{ℕ, pos, ◌+◌, ◌*◌, ◌&&◌, not, Bool, true, false, List, [], ◌∷◌, length, replicate, slice_get, slice_set, slice_index_or, Option, None, Some}
+use Rattle.std.specs.Prelude.{ℕ, pos, ◌+◌, ◌*◌, ◌&&◌, not, Bool, true, false, cond, List, [], ◌∷◌, length, replicate, slice_get, slice_set, slice_index_or, Option, None, Some}
 use Rattle.apex_num.specs.declared.cell.Cell.{Cell}
 use Rattle.apex_num.specs.declared.cell.Cell.TheVariants as C
 use Rattle.apex_num.specs.declared.kind.LimitKind.TheVariants.{Alloc}
@@ -16,58 +16,32 @@ use Rattle.txn_heap.specs.declared.thing.Value.{Value}
 use Rattle.txn_heap.specs.declared.thing.Value.TheVariants.{Plain, Object}
 use Rattle.typed_program.specs.declared.expr.CollectionKind.TheVariants as Kind
 use Rattle.typed_program.specs.declared.expr.Constant.{Constant}
-use Rattle.typed_program.specs.declared.expr.Conversion.{Conversion}
-use Rattle.typed_program.specs.declared.expr.Conversion.TheVariants.{Same}
-use Rattle.typed_program.specs.declared.expr.Number.TheVariants.{Integer}
-use Rattle.typed_program.specs.declared.expr.TypedOp.{TypedOp}
-use Rattle.typed_program.specs.declared.expr.TypedOp.TheVariants as Op
 use Rattle.typed_program.specs.declared.expr.TypedExpr.{TypedExpr}
 use Rattle.typed_program.specs.declared.expr.TypedNew.{TypedNew}
 use Rattle.typed_program.specs.declared.expr.TypedOperand.{TypedOperand}
 use Rattle.typed_program.specs.declared.expr.TypedPair.{TypedPair}
-use Rattle.typed_program.specs.declared.expr.TypedBind.TheOpen.{TypedBind-F, TypedExpr-F, TypedNew-F, TypedPart-F, TypedItem-F, TypedOperand-F, TypedPair-F}
-use Rattle.typed_program.specs.declared.expr.TypedBind.TheFolds.{fold-TypedExpr, fold-TypedNew, fold-TypedOperand, fold-TypedPair}
-use Rattle.apex_meaning.specs.States.{State, Res, Gives, bind, lifted, throws, unbuilt, charge, keeps, with_line, make}
-use Rattle.apex_meaning.specs.Values.{null, cell_of, is_cell, Calc, Val, Fails, Other, integers, negative, text_of}
-
--- what code does from a state on, and what goes on with a value does
-abbrev pub Run : Type 0
-Run = State → Res Value
-
-abbrev pub Behind : Type 0
-Behind = Value → State → Res Value
+use Rattle.typed_program.specs.declared.expr.TypedPlace.{TypedPlace}
+use Rattle.typed_program.specs.declared.expr.TypedBind.TheOpen.{TypedBind-F, TypedExpr-F, TypedNew-F, TypedPart-F, TypedPlace-F, TypedItem-F, TypedOperand-F, TypedPair-F}
+use Rattle.typed_program.specs.declared.expr.TypedBind.TheFolds.{fold-TypedExpr, fold-TypedNew, fold-TypedPlace, fold-TypedOperand, fold-TypedPair}
+use Rattle.save_meaning.specs.Results.{Gives, bind}
+use Rattle.value_operators.specs.Operators.{negated}
+use Rattle.apex_meaning.specs.States.{State, Res, throws, unbuilt, charge, keeps, with_line, make}
+use Rattle.apex_meaning.specs.Values.{null, cell_of, is_cell, text_of}
+use Rattle.apex_meaning.specs.Meanings.{Run, Behind, calc, test}
+use Rattle.apex_meaning.specs.Operations.{boolean, convert, operated, chained}
+use Rattle.apex_meaning.specs.Places.{Where, LocalAt, assigned, assigned_with, changed}
 
 -- the parts of a tree, with what each does in the place of the part: in this order those of binds, expressions, `new`, parts of
--- paths, items of maps, operands and fields
+-- paths, places, items of maps, operands and fields
 abbrev pub ExprOf : Type 0
-ExprOf = TypedExpr-F Run Run Run Behind Run Behind (ℕ × Run)
+ExprOf = TypedExpr-F Run Run Run Behind Where Run Behind (ℕ × Run)
 
-abbrev pub constant : Bool → Constant → State → Res Value
+abbrev pub constant : Bool → Constant → Run
 constant true k st = Gives (Plain (cell_of k)) st
 constant false k st = unbuilt st
 
-abbrev pub calc : Calc → State → Res Value
-calc (Val v) st = Gives v st
-calc (Fails t) st = throws t st
-calc Other st = unbuilt st
-
--- both operands are there
-abbrev pub apply : Conversion → TypedOp → Value → Value → State → Res Value
-apply Same (Op.Arithmetic a Integer) v w st = calc (integers a v w) st
-apply _ _ v w st = unbuilt st
-
--- the right operand is evaluated, then the operator is applied
-abbrev pub operand_step : TypedOperand-F Run Run Run Behind Run Behind (ℕ × Run) → Value → State → Res Value
-operand_step o v st = bind (o.right st) (λ w s. apply o.left o.op v w s)
-
--- a chain, from left to right
-abbrev pub chained : List (Value → State → Res Value) → Value → State → Res Value
-chained [] v st = Gives v st
-chained (o ∷ os) v st = bind (o v st) (chained os)
-
-abbrev pub converted : Conversion → Value → State → Res Value
-converted Same v st = Gives v st
-converted _ v st = unbuilt st
+abbrev pub operand_step : TypedOperand-F Run Run Run Behind Where Run Behind (ℕ × Run) → Behind
+operand_step o = operated o.left o.op o.right o.value
 
 -- the values of parts, from left to right
 abbrev pub all_of : List Run → State → Res (List Value)
@@ -118,13 +92,13 @@ module _ (site : Site) where
   abbrev pub make_list : List Value → State → Res Value
   make_list vs st = bind (charge Alloc (32 + 16 * length vs) st) (λ u s. make (T.List vs) s)
 
-  abbrev pub new_step : TypedNew-F Run Run Run Behind Run Behind (ℕ × Run) → Run
+  abbrev pub new_step : TypedNew-F Run Run Run Behind Where Run Behind (ℕ × Run) → Run
   new_step (TypedNew-F.Record object ps) st = bind (all_pairs ps st) (make_record object)
   new_step (TypedNew-F.Collection Kind.List es) st = bind (all_of es st) make_list
   new_step _ st = unbuilt st
 
   abbrev pub count_if : Bool → ℕ → Cond → State → Res Value
-  count_if true object c st = bind (lifted (count keeps object c st)) (λ n s. Gives (Plain (C.Whole (pos n))) s)
+  count_if true object c st = bind (count keeps object c st) (λ n s. Gives (Plain (C.Whole (pos n))) s)
   count_if false object c st = unbuilt st
 
   abbrev pub counted : Query-F Query SubQuery → State → Res Value
@@ -136,36 +110,47 @@ module _ (site : Site) where
 
   abbrev pub expr_step : ExprOf → Run
   expr_step (TypedExpr-F.Constant k) st = constant (is_cell k) k st
-  expr_step (TypedExpr-F.Local x) st = Gives (slice_index_or st.locals x null) st
+  expr_step (TypedExpr-F.TypedExpr::Local x) st = Gives (slice_index_or st.here.locals x null) st
   expr_step (TypedExpr-F.Chain e os) st = bind (e st) (chained os)
-  expr_step (TypedExpr-F.Convert c e) st = bind (e st) (converted c)
-  expr_step (TypedExpr-F.Minus Integer e) st = bind (e st) (λ v s. calc (negative v) s)
+  expr_step (TypedExpr-F.Convert c e) st = bind (e st) (convert c)
+  expr_step (TypedExpr-F.Not e) st = bind (test e st) (λ b s. Gives (boolean (cond b false true)) s)
+  expr_step (TypedExpr-F.Minus n e) st = bind (e st) (λ v s. calc (negated n v) s)
+  expr_step (TypedExpr-F.Assign t e) st = bind (t st) (assigned e)
+  expr_step (TypedExpr-F.AssignWith t how e) st = bind (t st) (assigned_with how e)
+  expr_step (TypedExpr-F.Step kind n t) st = bind (t st) (changed kind n)
   expr_step (TypedExpr-F.New n) st = n st
   expr_step (TypedExpr-F.Debug e) st = bind (e st) say
   expr_step (TypedExpr-F.Query q binds) st = query_with q binds st
   expr_step _ st = unbuilt st
 
-  abbrev pub pair_step : TypedPair-F Run Run Run Behind Run Behind (ℕ × Run) → ℕ × Run
+  abbrev pub pair_step : TypedPair-F Run Run Run Behind Where Run Behind (ℕ × Run) → ℕ × Run
   pair_step p = (p.field, p.value)
 
-  -- parts, binds and items aren't built yet
-  abbrev pub bind_step : TypedBind-F Run Run Run Behind Run Behind (ℕ × Run) → Run
+  -- parts, binds, items and places other than locals aren't built yet
+  abbrev pub bind_step : TypedBind-F Run Run Run Behind Where Run Behind (ℕ × Run) → Run
   bind_step b st = unbuilt st
 
-  abbrev pub part_step : TypedPart-F Run Run Run Behind Run Behind (ℕ × Run) → Behind
+  abbrev pub part_step : TypedPart-F Run Run Run Behind Where Run Behind (ℕ × Run) → Behind
   part_step p v st = unbuilt st
 
-  abbrev pub item_step : TypedItem-F Run Run Run Behind Run Behind (ℕ × Run) → Run
+  abbrev pub place_step : TypedPlace-F Run Run Run Behind Where Run Behind (ℕ × Run) → Where
+  place_step (TypedPlace-F.TypedPlace::Local x) st = Gives (LocalAt x) st
+  place_step _ st = unbuilt st
+
+  abbrev pub item_step : TypedItem-F Run Run Run Behind Where Run Behind (ℕ × Run) → Run
   item_step i st = unbuilt st
 
   abbrev pub value_of : TypedExpr → Run
-  value_of = fold-TypedExpr Run Run Run Behind Run Behind (ℕ × Run) bind_step expr_step new_step part_step item_step operand_step pair_step
+  value_of = fold-TypedExpr Run Run Run Behind Where Run Behind (ℕ × Run) bind_step expr_step new_step part_step place_step item_step operand_step pair_step
 
   abbrev pub new_of : TypedNew → Run
-  new_of = fold-TypedNew Run Run Run Behind Run Behind (ℕ × Run) bind_step expr_step new_step part_step item_step operand_step pair_step
+  new_of = fold-TypedNew Run Run Run Behind Where Run Behind (ℕ × Run) bind_step expr_step new_step part_step place_step item_step operand_step pair_step
+
+  abbrev pub place_of : TypedPlace → Where
+  place_of = fold-TypedPlace Run Run Run Behind Where Run Behind (ℕ × Run) bind_step expr_step new_step part_step place_step item_step operand_step pair_step
 
   abbrev pub operand_of : TypedOperand → Behind
-  operand_of = fold-TypedOperand Run Run Run Behind Run Behind (ℕ × Run) bind_step expr_step new_step part_step item_step operand_step pair_step
+  operand_of = fold-TypedOperand Run Run Run Behind Where Run Behind (ℕ × Run) bind_step expr_step new_step part_step place_step item_step operand_step pair_step
 
   abbrev pub pair_of : TypedPair → ℕ × Run
-  pair_of = fold-TypedPair Run Run Run Behind Run Behind (ℕ × Run) bind_step expr_step new_step part_step item_step operand_step pair_step
+  pair_of = fold-TypedPair Run Run Run Behind Where Run Behind (ℕ × Run) bind_step expr_step new_step part_step place_step item_step operand_step pair_step

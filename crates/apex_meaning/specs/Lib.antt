@@ -1,6 +1,9 @@
 pub mod Refusals
 pub mod States
 pub mod Values
+pub mod Meanings
+pub mod Operations
+pub mod Places
 pub mod Expressions
 pub mod Statements
 pub mod Runs

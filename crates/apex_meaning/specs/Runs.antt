@@ -19,10 +19,15 @@ use Rattle.tenant_trails.specs.Runs.{Run, Asks, Ends}
 use Rattle.txn_overlay.specs.Changes.{writes_of}
 use Rattle.type_names.specs.declared.fault.TreeFault.{TreeFault}
 use Rattle.typed_program.specs.declared.program.Program.{Program}
-use Rattle.typed_program.specs.declared.unit.TypedUnit.{TypedUnit}
-use Rattle.typed_program.specs.declared.unit.TypedUnit.TheVariants.{Block}
 use Rattle.typed_program.specs.declared.stmt.TypedStmt.{TypedStmt}
-use Rattle.apex_meaning.specs.States.{World, State, Throws, Halts, Needs, Unbuilt, Leaves, Closes, Res, Gives, Stops}
+use Rattle.activations.specs.declared.abrupt.Abrupt.{Abrupt}
+use Rattle.activations.specs.declared.abrupt.Abrupt.TheVariants.{Throws}
+use Rattle.activations.specs.declared.abrupt.Raised.{Raised}
+use Rattle.activations.specs.declared.abrupt.Raised.TheVariants.{Platform, Made}
+use Rattle.apex_schema.specs.declared.schema.Mode.TheVariants.{Sharing}
+use Rattle.save_meaning.specs.Results.{Halts, Needs, Unfinished, Unbuilt, Leaves, Closes, Gives, Stops}
+use Rattle.apex_meaning.specs.States.{World, State, Res}
+use Rattle.apex_meaning.specs.Values.{null}
 use Rattle.apex_meaning.specs.Statements.{does_all}
 
 abbrev pub counts_of : List Entry → Counts
@@ -38,17 +43,35 @@ counts_of charges = record {
 abbrev pub ended : Outcome → World → Reply
 ended o w = record { outcome = o; debug = w.debug; counts = counts_of w.txn.charges; ops = 0 }
 
--- nothing is charged, made or changed
+-- nothing is charged, made or changed; a block runs on no instance, with sharing, in no firing of a trigger
 abbrev pub first_state : List Answer → State
-first_state tape = record { locals = []; world = record { txn = record { overlay = []; minted = 0; charges = []; tape = tape }; heap = []; debug = [] } }
+first_state tape = record {
+  here = record { locals = []; this = null; mode = Sharing; firing = 0 };
+  world = record { txn = record { overlay = []; minted = 0; charges = []; tape = tape }; heap = []; statics = []; debug = [] };
+}
+
+-- a request that came to its end
+abbrev pub whole : Ticket → World → Run
+whole ticket w = Ends (ended O.Ok w) (writes_of ticket.session ticket.index w.txn.overlay)
+
+-- what nothing catches: of a thing that is thrown, nothing is built yet
+abbrev pub uncaught : Raised → World → Run
+uncaught (Platform t) w = Ends (ended (O.Thrown (class_name (class t)) (message t)) w) no_writes
+uncaught (Made r) w = Ends (refusal not_yet) no_writes
+
+-- a block that is left early; its `return` is its end, and no `break` or `continue` leaves a block
+abbrev pub left_by : Ticket → Abrupt → World → Run
+left_by ticket (Throws what) w = uncaught what w
+left_by ticket why w = whole ticket w
 
 module _ (site : Site) where
   -- what isn't built is refused; what throws, or passes a limit, writes nothing
   abbrev pub run_of : Res (Unit {0}) → Run
-  run_of (Gives u st) = Ends (ended O.Ok st.world) (writes_of site.ticket.session site.ticket.index st.world.txn.overlay)
-  run_of (Stops (Leaves (Throws t)) st) = Ends (ended (O.Thrown (class_name (class t)) (message t)) st.world) no_writes
+  run_of (Gives u st) = whole site.ticket st.world
+  run_of (Stops (Leaves why) st) = left_by site.ticket why st.world
   run_of (Stops (Closes (Halts k n)) st) = Ends (ended (O.Limit k n) st.world) no_writes
   run_of (Stops (Closes (Needs q)) st) = Asks q
+  run_of (Stops (Closes Unfinished) st) = Ends (refusal not_yet) no_writes
   run_of (Stops (Closes Unbuilt) st) = Ends (refusal not_yet) no_writes
 
   -- a block of a request, on a tape of answers
@@ -72,11 +95,11 @@ abbrev pub site_of : Setting → Site
 site_of setting = record { schema = setting.schema; ticket = setting.ticket }
 
 -- the statements of a block, or none where its code has a fault
-abbrev pub stmts_of : Result TypedUnit TreeFault → Option (List TypedStmt)
-stmts_of (Ok (Block stmts)) = Some stmts
+abbrev pub stmts_of : Result (List TypedStmt) TreeFault → Option (List TypedStmt)
+stmts_of (Ok stmts) = Some stmts
 stmts_of _ = None
 
-abbrev pub stmts_or : Option (Result TypedUnit TreeFault) → Option (List TypedStmt)
+abbrev pub stmts_or : Option (Result (List TypedStmt) TreeFault) → Option (List TypedStmt)
 stmts_or None = None
 stmts_or (Some block) = stmts_of block
 

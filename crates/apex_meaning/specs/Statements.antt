@@ -1,5 +1,5 @@
 -- What statements do (docs/language.md, "What code does").
-use Rattle.std.specs.Prelude.{ℕ, List, [], ◌∷◌, map, slice_get, slice_set, Option, None, Some}
+use Rattle.std.specs.Prelude.{ℕ, List, [], ◌∷◌, map, slice_get, Option, None, Some}
 use Rattle.apex_num.specs.declared.cell.Cell.{Cell}
 use Rattle.apex_num.specs.declared.cell.Cell.TheVariants.{Id}
 use Rattle.apex_num.specs.declared.kind.LimitKind.TheVariants.{Steps}
@@ -8,6 +8,8 @@ use Rattle.apex_syntax.specs.declared.stmt.DmlOp.TheVariants.{Insert}
 use Rattle.platform_errors.specs.declared.thrown.Thrown.TheVariants.{NullObject}
 use Rattle.save_meaning.specs.Sites.{Site}
 use Rattle.save_meaning.specs.Inserts.{insert}
+use Rattle.txn_heap.specs.Changes.{changed, thing_after}
+use Rattle.txn_heap.specs.declared.change.Change.TheVariants.{Know}
 use Rattle.txn_heap.specs.declared.thing.Thing.{Thing}
 use Rattle.txn_heap.specs.declared.thing.Thing.TheVariants as T
 use Rattle.txn_heap.specs.declared.thing.Value.{Value}
@@ -19,7 +21,8 @@ use Rattle.typed_program.specs.declared.stmt.TypedStmt.{TypedStmt}
 use Rattle.typed_program.specs.declared.stmt.TypedStmt.TheOpen.{TypedStmt-F, TypedCatch-F}
 use Rattle.typed_program.specs.declared.stmt.TypedStmt.TheFolds.{fold-TypedStmt}
 use Rattle.typed_program.specs.declared.expr.TypedExpr.{TypedExpr}
-use Rattle.apex_meaning.specs.States.{State, Res, Gives, bind, lifted, throws, unbuilt, charge, keeps, set_local, with_heap}
+use Rattle.save_meaning.specs.Results.{Gives, bind}
+use Rattle.apex_meaning.specs.States.{State, Res, saved, throws, unbuilt, charge, keeps, set_local, with_heap}
 use Rattle.apex_meaning.specs.Values.{null}
 use Rattle.apex_meaning.specs.Expressions.{value_of}
 
@@ -67,19 +70,15 @@ abbrev pub rows_in : List Thing → List ℕ → List SaveRow
 rows_in heap ps = map (λ p. row_in p (slice_get heap p)) ps
 
 -- a saved record has its Id
-abbrev pub set_id : List ℕ → ℕ → Option Thing → List Thing → List Thing
-set_id id place (Some (T.Record r)) heap = slice_set heap place (T.Record (record r { cells = slice_set r.cells 0 (Some (Id id)) }))
-set_id id place _ heap = heap
-
 abbrev pub set_ids : List ℕ → List (List ℕ) → List Thing → List Thing
 set_ids [] ids heap = heap
 set_ids (p ∷ ps) [] heap = heap
-set_ids (p ∷ ps) (i ∷ is) heap = set_ids ps is (set_id i p (slice_get heap p) heap)
+set_ids (p ∷ ps) (i ∷ is) heap = set_ids ps is (changed p (thing_after (Know 0 (Id i))) heap)
 
 module _ (site : Site) where
   abbrev pub insert_at : ℕ → List ℕ → Do
   insert_at object ps st =
-      bind (lifted (insert keeps site object (rows_in st.world.heap ps) st)) (λ ids s. Gives tt (with_heap (set_ids ps ids s.world.heap) s))
+      bind (saved (insert keeps site object (rows_in st.world.heap ps) st)) (λ ids s. Gives tt (with_heap (set_ids ps ids s.world.heap) s))
 
   -- a null list and a null record throw before anything is charged
   abbrev pub insert_these : Option (ℕ × List ℕ) → Do
@@ -99,8 +98,8 @@ module _ (site : Site) where
   stmt_step (TypedStmt-F.Block ds) st = all_do ds st
   stmt_step (TypedStmt-F.Declare ls) st = bind (charge Steps 1 st) (λ u s. declare_all ls s)
   stmt_step (TypedStmt-F.Expr e) st = bind (charge Steps 1 st) (λ u s. bind (value_of site e s) (λ v s1. Gives tt s1))
-  stmt_step (TypedStmt-F.Dml Insert saved e) st =
-      bind (charge Steps 1 st) (λ u s. bind (value_of site e s) (λ v s1. insert_these (records_of saved v s1.world.heap) s1))
+  stmt_step (TypedStmt-F.Dml Insert what e) st =
+      bind (charge Steps 1 st) (λ u s. bind (value_of site e s) (λ v s1. insert_these (records_of what v s1.world.heap) s1))
   stmt_step _ st = unbuilt st
 
   abbrev pub catch_step : TypedCatch-F Do Do → Do

@@ -1,17 +1,12 @@
--- Values, operators on them, and their texts (docs/language.md, "Whole numbers" and "What code does").
-use Rattle.std.specs.Prelude.{ℕ, ℤ, zero, suc, pos, negsuc, ◌^◌, ◌&&◌, nat_lt, Bool, true, false, List, [], ◌∷◌, ◌++◌, length, codes, slice_get, Option, None, Some}
+-- Values, and their texts (docs/language.md, "What code does").
+use Rattle.std.specs.Prelude.{ℕ, zero, suc, pos, ◌^◌, nat_lt, Bool, true, List, [], ◌∷◌, ◌++◌, length, codes, slice_get, Option, None, Some}
 use Rattle.std.specs.Str.{is_utf8}
-use Rattle.std.specs.Int.{w32, int_wrapping_add, int_wrapping_sub, int_wrapping_mul, int_wrapping_div, int_wrapping_neg}
 use Rattle.apex_num.specs.declared.cell.Cell.{Cell}
 use Rattle.apex_num.specs.declared.cell.Cell.TheVariants as C
 use Rattle.apex_schema.specs.declared.schema.Field.{Field}
 use Rattle.apex_schema.specs.declared.schema.Object.{Object as TheObject}
 use Rattle.apex_schema.specs.declared.schema.Schema.{Schema}
 use Rattle.builtin_table.specs.Shown.{shown}
-use Rattle.platform_errors.specs.declared.thrown.Thrown.{Thrown}
-use Rattle.platform_errors.specs.declared.thrown.Thrown.TheVariants.{DivideByZero, NullObject}
-use Rattle.typed_program.specs.declared.expr.Arithmetic.{Arithmetic}
-use Rattle.typed_program.specs.declared.expr.Arithmetic.TheVariants.{Plus, Minus, Times, Over}
 use Rattle.typed_program.specs.declared.expr.Constant.{Constant}
 use Rattle.typed_program.specs.declared.expr.Constant.TheVariants as K
 use Rattle.txn_heap.specs.declared.thing.Record.{Record}
@@ -35,49 +30,6 @@ abbrev pub is_cell : Constant → Bool
 is_cell (K.Decimal n) = nat_lt n (10 ^ 19)
 is_cell (K.Text t) = is_utf8 t
 is_cell _ = true
-
--- ---- operators on Integers: they wrap at 32 bits, a division drops the fraction, and one by zero throws
-
--- a value, or what is thrown in its place
-pub data Calc : Type 0 where
-  Val : Value → Calc
-  Fails : Thrown → Calc
-  Other : Calc
-
-abbrev pub whole : ℤ → Calc
-whole n = Val (Plain (C.Whole n))
-
-abbrev pub quotient : ℤ → ℤ → Calc
-quotient x (pos zero) = Fails DivideByZero
-quotient x (pos (suc n)) = whole (int_wrapping_div w32 x (pos (suc n)))
-quotient x (negsuc n) = whole (int_wrapping_div w32 x (negsuc n))
-
-abbrev pub on_integers : Arithmetic → ℤ → ℤ → Calc
-on_integers Plus x y = whole (int_wrapping_add w32 x y)
-on_integers Minus x y = whole (int_wrapping_sub w32 x y)
-on_integers Times x y = whole (int_wrapping_mul w32 x y)
-on_integers Over x y = quotient x y
-
--- an Integer has 32 bits; a whole number that needs more is none
-abbrev pub is_integer : ℤ → Bool
-is_integer (pos n) = nat_lt n (2 ^ 31)
-is_integer (negsuc n) = nat_lt n (2 ^ 31)
-
-abbrev pub if_integer : Bool → Calc → Calc
-if_integer true c = c
-if_integer false c = Other
-
--- a null operand throws; other cells aren't Integers
-abbrev pub integers : Arithmetic → Value → Value → Calc
-integers op (Plain (C.Whole x)) (Plain (C.Whole y)) = if_integer (is_integer x && is_integer y) (on_integers op x y)
-integers op (Plain C.Null) _ = Fails NullObject
-integers op _ (Plain C.Null) = Fails NullObject
-integers op _ _ = Other
-
-abbrev pub negative : Value → Calc
-negative (Plain (C.Whole x)) = if_integer (is_integer x) (whole (int_wrapping_neg w32 x))
-negative (Plain C.Null) = Fails NullObject
-negative _ = Other
 
 -- ---- texts of values
 
@@ -120,6 +72,8 @@ abbrev pub thing_text : (Value → List ℕ) → Schema → Option Thing → Lis
 thing_text text schema None = []
 thing_text text schema (Some (T.Record r)) = record_text schema r
 thing_text text schema (Some (T.List vs)) = codes "(" ++ listed (texts_by text vs) ++ codes ")"
+-- of other things no text is built yet
+thing_text text schema _ = []
 
 -- the text of a value, where at most so many things lead to each other
 abbrev pub text_within : ℕ → Schema → List Thing → Value → List ℕ

@@ -23,6 +23,7 @@ use Rattle.apex_parse_unit.specs.declared.part.ClassHead.{ClassHead}
 use Rattle.apex_parse_unit.specs.declared.part.InterfaceHead.{InterfaceHead}
 use Rattle.apex_parse_unit.specs.declared.kind.UnitKind.TheVariants.{Interface as IsInterface}
 use Rattle.apex_parse_unit.specs.Kinds.{unit_kind}
+use Rattle.apex_parse_unit.specs.Names.{unit_name}
 use Rattle.apex_parse_unit.specs.Members.{next_some, next_if, begins_result, result_tree, params, members}
 
 -- ---- modifiers
@@ -81,7 +82,7 @@ interfaces = Choose (next_word Implements) (Then (word Implements) (λ _. names)
 -- a name, its parent and its interfaces
 abbrev pub named_head : List ClassModifier → Rule ClassHead
 named_head ms =
-    Then (name InCode) (λ x. Then parent (λ p. Then interfaces (λ xs. Give (record { modifiers = ms; name = x; parent = p; interfaces = xs }))))
+    Then unit_name (λ x. Then parent (λ p. Then interfaces (λ xs. Give (record { modifiers = ms; name = x; parent = p; interfaces = xs }))))
 
 abbrev pub class_head : Rule ClassHead
 class_head = Then class_modifiers (λ ms. Then (word ClassWord) (λ _. named_head ms))
@@ -90,7 +91,7 @@ abbrev pub class_body : ℕ → Rule (List MemberTree)
 class_body room = Then (open_sign OpenBrace room) (λ inside. Then (members inside) (λ ms. Then (sign CloseBrace) (λ _. Give ms)))
 
 abbrev pub class_tree : Span → ClassHead → List MemberTree → ClassTree
-class_tree sp h ms = record { span = sp; modifiers = h.modifiers; name = h.name; parent = h.parent; interfaces = h.interfaces; members = ms }
+class_tree sp h ms = record { span = sp; modifiers = h.modifiers; name = h.name.word; written = h.name.written; parent = h.parent; interfaces = h.interfaces; members = ms }
 
 abbrev pub class : ℕ → Rule ClassTree
 class room = Then Here (λ i. Then class_head (λ h. Then (class_body room) (λ ms. Then (Since i) (λ sp. Give (class_tree sp h ms)))))
@@ -110,7 +111,7 @@ access = Then Here (λ i. Then (Take access_of) (λ w. Then (Since i) (λ sp. Gi
 
 abbrev pub interface_head : Rule InterfaceHead
 interface_head =
-    Then (optional (next_some access_kind) access) (λ m. Then (word InterfaceWord) (λ _. Then (name InCode) (λ x. Give (record { modifier = m; name = x }))))
+    Then (optional (next_some access_kind) access) (λ m. Then (word InterfaceWord) (λ _. Then unit_name (λ x. Give (record { modifier = m; name = x }))))
 
 -- a method without a body
 abbrev pub signature : ℕ → Rule SignatureTree
@@ -125,7 +126,7 @@ abbrev pub interface_body : ℕ → Rule (List SignatureTree)
 interface_body room = Then (open_sign OpenBrace room) (λ inside. Then (signatures inside) (λ ms. Then (sign CloseBrace) (λ _. Give ms)))
 
 abbrev pub interface_tree : Span → InterfaceHead → List SignatureTree → InterfaceTree
-interface_tree sp h ms = record { span = sp; modifier = h.modifier; name = h.name; methods = ms }
+interface_tree sp h ms = record { span = sp; modifier = h.modifier; name = h.name.word; written = h.name.written; methods = ms }
 
 abbrev pub interface : ℕ → Rule InterfaceTree
 interface room = Then Here (λ i. Then interface_head (λ h. Then (interface_body room) (λ ms. Then (Since i) (λ sp. Give (interface_tree sp h ms)))))

@@ -1,4 +1,5 @@
 pub mod Kinds
+pub mod Names
 pub mod Members
 pub mod Classes
 pub mod Triggers

@@ -17,6 +17,7 @@ use Rattle.token_grammar.specs.declared.read.Names.TheVariants.{InCode}
 use Rattle.token_grammar.specs.Notation.{Rule, Give, Here, Since, Is, Take, Then, Many}
 use Rattle.token_grammar.specs.Tokens.{sign, word, name, next_sign, open_sign}
 use Rattle.apex_parse_unit.specs.declared.part.TriggerHead.{TriggerHead}
+use Rattle.apex_parse_unit.specs.Names.{unit_name}
 use Rattle.apex_parse_unit.specs.Members.{body}
 
 -- whether an event comes after the change
@@ -54,10 +55,10 @@ events room = Then (open_sign OpenParen room) (λ _. Then all_events (λ es. The
 
 abbrev pub trigger_head : Rule TriggerHead
 trigger_head =
-    Then (word TriggerWord) (λ _. Then (name InCode) (λ x. Then (word On) (λ _. Then (name InCode) (λ o. Give (record { name = x; object = o })))))
+    Then (word TriggerWord) (λ _. Then unit_name (λ x. Then (word On) (λ _. Then (name InCode) (λ o. Give (record { name = x; object = o })))))
 
 abbrev pub trigger_tree : Span → TriggerHead → List EventTree → Body → TriggerTree
-trigger_tree sp h es b = record { span = sp; name = h.name; object = h.object; events = es; body = b }
+trigger_tree sp h es b = record { span = sp; name = h.name.word; written = h.name.written; object = h.object; events = es; body = b }
 
 abbrev pub trigger : ℕ → Rule TriggerTree
 trigger room =

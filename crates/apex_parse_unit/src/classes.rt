@@ -8,6 +8,7 @@ ghost use Rattle.apex_parse_unit.specs.Classes as grammar;
 
 use crate::members::members;
 use crate::modifiers::class_modifiers;
+use crate::named::unit_name;
 use crate::part::ClassHead;
 use apex_lexer::{Keyword, Sign, Token};
 use apex_list::{Boxed, Items};
@@ -86,7 +87,7 @@ fn named_head(
 ) -> Result<(ClassHead, usize), Stop>
     ensures { Told tokens.now (grammar.named_head modifiers) at result }
 {
-    let (name, behind) = name(alloc, tokens, at, Names::InCode)?;
+    let (name, behind) = unit_name(alloc, tokens, at)?;
     let (parent, behind) = parent(alloc, tokens, behind)?;
     let (interfaces, end) = interfaces(alloc, tokens, behind)?;
     Ok((
@@ -135,7 +136,8 @@ fn made(
     let tree = ClassTree {
         span,
         modifiers: head.modifiers,
-        name: head.name,
+        name: head.name.word,
+        written: head.name.written,
         parent: head.parent,
         interfaces: head.interfaces,
         members,

@@ -8,6 +8,7 @@ ghost use Rattle.apex_parse_unit.specs.Classes as grammar;
 
 use crate::members::is_result;
 use crate::modifiers::some_access;
+use crate::named::unit_name;
 use crate::params::{params, result_tree};
 use crate::part::InterfaceHead;
 use apex_lexer::{Keyword, Sign, Token};
@@ -26,7 +27,7 @@ fn interface_head(
 {
     let (modifier, behind) = some_access(tokens, at)?;
     let behind = pass_word(tokens, behind, Keyword::Interface)?;
-    let (name, end) = name(alloc, tokens, behind, Names::InCode)?;
+    let (name, end) = unit_name(alloc, tokens, behind)?;
     Ok((InterfaceHead { modifier, name }, end))
 }
 
@@ -98,7 +99,8 @@ fn made(
     let tree = InterfaceTree {
         span,
         modifier: head.modifier,
-        name: head.name,
+        name: head.name.word,
+        written: head.name.written,
         methods,
     };
     boxed(alloc, tree, end)

@@ -7,6 +7,7 @@ mod kind;
 mod laws;
 mod members;
 mod modifiers;
+mod named;
 mod params;
 mod part;
 mod triggers;

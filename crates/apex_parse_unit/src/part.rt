@@ -3,6 +3,13 @@
 use apex_list::{Boxed, Items};
 use apex_syntax::{Body, ClassModifier, Expr, ParamTree, ResultTree, TypeTree, Word};
 
+/// The name of a unit, and its bytes as they are written.
+#[derive(Drop)]
+pub struct UnitName {
+    pub word: Word,
+    pub written: Items<u8>,
+}
+
 /// A member without its modifiers.
 #[derive(Drop)]
 pub enum MemberBody {
@@ -16,7 +23,7 @@ pub enum MemberBody {
 #[derive(Drop)]
 pub struct ClassHead {
     pub modifiers: Items<ClassModifier>,
-    pub name: Word,
+    pub name: UnitName,
     /// The name behind `extends`.
     pub parent: Option<Word>,
     /// The names behind `implements`.
@@ -27,13 +34,13 @@ pub struct ClassHead {
 #[derive(Drop)]
 pub struct InterfaceHead {
     pub modifier: Option<ClassModifier>,
-    pub name: Word,
+    pub name: UnitName,
 }
 
 /// What stands before the events of a trigger.
 #[derive(Drop)]
 pub struct TriggerHead {
-    pub name: Word,
+    pub name: UnitName,
     /// The object behind `on`.
     pub object: Word,
 }

@@ -6,6 +6,7 @@ ghost use Rattle.token_grammar.specs.Notation as notation;
 ghost use Rattle.token_grammar.specs.Readings.{Told};
 ghost use Rattle.apex_parse_unit.specs.Triggers as grammar;
 
+use crate::named::unit_name;
 use crate::part::TriggerHead;
 use apex_lexer::{Keyword, Sign, Token, TokenKind};
 use apex_list::{Boxed, Items};
@@ -126,7 +127,7 @@ fn trigger_head(alloc: Global, tokens: &[Token], at: usize) -> Result<(TriggerHe
     ensures { Told tokens.now grammar.trigger_head at result }
 {
     let behind = pass_word(tokens, at, Keyword::Trigger)?;
-    let (word, behind) = name(alloc, tokens, behind, Names::InCode)?;
+    let (word, behind) = unit_name(alloc, tokens, behind)?;
     let behind = pass_word(tokens, behind, Keyword::On)?;
     let (object, end) = name(alloc, tokens, behind, Names::InCode)?;
     Ok((TriggerHead { name: word, object }, end))
@@ -145,7 +146,8 @@ fn made(
 {
     let tree = TriggerTree {
         span,
-        name: head.name,
+        name: head.name.word,
+        written: head.name.written,
         object: head.object,
         events,
         body,

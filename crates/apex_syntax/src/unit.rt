@@ -22,6 +22,8 @@ pub struct ClassTree {
     /// As they are written: one may be repeated, and one may contradict another.
     pub modifiers: Items<ClassModifier>,
     pub name: Word,
+    /// The name as it is written.
+    pub written: Items<u8>,
     /// The name behind `extends`.
     pub parent: Option<Word>,
     /// The names behind `implements`; none where it isn't written.
@@ -108,6 +110,8 @@ pub struct InterfaceTree {
     /// `public` or `global`
     pub modifier: Option<ClassModifier>,
     pub name: Word,
+    /// The name as it is written.
+    pub written: Items<u8>,
     pub methods: Items<SignatureTree>,
 }
 
@@ -125,6 +129,8 @@ pub struct SignatureTree {
 pub struct TriggerTree {
     pub span: Span,
     pub name: Word,
+    /// The name as it is written.
+    pub written: Items<u8>,
     /// The object behind `on`.
     pub object: Word,
     pub events: Items<EventTree>,

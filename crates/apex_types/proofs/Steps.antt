@@ -14,11 +14,11 @@ use Rattle.method_calls.specs.MethodNamings.{Namings, names_of_table}
 use Rattle.record_words.specs.Names.{object_names}
 use Rattle.type_names.specs.declared.fault.TreeFault.{TreeFault}
 use Rattle.type_names.specs.TypeTrees.{Known}
-use Rattle.typed_program.specs.declared.unit.TypedUnit.{TypedUnit}
+use Rattle.typed_program.specs.declared.stmt.TypedStmt.{TypedStmt}
+use Rattle.apex_types.specs.declared.code.Code.{Code}
 use Rattle.apex_types.specs.declared.fault.CheckFault.{CheckFault}
 use Rattle.apex_types.specs.declared.fault.CheckFault.TheVariants as C
-use Rattle.typed_program.specs.declared.program.Program.{Program}
-use Rattle.apex_types.specs.Checks.{Check, Gives, Comes, next, naming, home_of, code_of, program_with, checked}
+use Rattle.apex_types.specs.Checks.{Check, Gives, Fails, Comes, next, naming, home_of, no_code, units_from, block_of, typed_units, program_of, checked}
 
 names_in_tables : (tables : List MemberTable) → map naming (map members_of tables) ≡ map names_of_table tables
 names_in_tables [] = refl
@@ -38,14 +38,29 @@ home_is objects names units known heads tables methods e k h m n =
     ∙ ap (λ x. home_with (known_of (object_names objects) units) (heads_of (object_names objects) units) (map members_of tables) objects x) methods_are
     ∙ ap (λ x. home_with (known_of (object_names objects) units) (heads_of (object_names objects) units) x objects (map naming x)) (m ∙ ap (λ x. members_among (known_of x units) units) e)
 
-module _ (objects : List Object) (units blocks : List Tree) where
-  pub code_fails : (fault : CheckFault) → Comes (code_of objects units blocks) (Err fault) → Comes (checked objects units blocks) (Err fault)
-  code_fails (C.Wrong fault) h = ap (λ w. next w (λ code. Gives (program_with code))) h
-  code_fails C.NoMemory h = tt
+-- ---- the parts of a program
 
-  pub program_is : (made : List TypedUnit) (forms : List (Result TypedUnit TreeFault))
-      → code_of objects units blocks ≡ Gives (made, forms) → checked objects units blocks ≡ Gives (record { units = made; blocks = forms })
-  program_is made forms e = ap (λ w. next w (λ code. Gives (program_with code))) e
+module _ {A B : Type 0} where
+  pub halts : (w : Check A) (go : A → Check B) (fault : CheckFault) → Fails w fault → Fails (next w go) fault
+  halts w go (C.Wrong fault) h = ap (λ v. next v go) h
+  halts w go C.NoMemory h = h
+
+module _ (objects : List Object) (units blocks : List Tree) (h : Home) (is : h ≡ home_of objects units) (names : List (List ℕ)) (named : names ≡ object_names objects) where
+  same_units : units_from names units h 0 units no_code ≡ typed_units objects units
+  same_units = ap (λ l. units_from l units h 0 units no_code) named ∙ ap (λ x. units_from (object_names objects) units x 0 units no_code) is
+
+  -- the code of units has a fault
+  pub program_fails : (fault : CheckFault) → Fails (units_from names units h 0 units no_code) fault → Fails (checked objects units blocks) fault
+  program_fails fault e =
+      halts (typed_units objects units) (λ code. Gives (program_of code (map (block_of (home_of objects units)) blocks))) fault (subst (λ w. Fails w fault) same_units e)
+
+  -- or has none
+  pub program_is : (code : Code) (forms : List (Result (List TypedStmt) TreeFault)) → units_from names units h 0 units no_code ≡ Gives code → forms ≡ map (block_of h) blocks
+      → checked objects units blocks ≡ Gives (program_of code forms)
+  program_is code forms e f =
+      ap (λ w. next w (λ c. Gives (program_of c (map (block_of (home_of objects units)) blocks)))) (sym same_units ∙ e)
+      ∙ ap (λ x. Gives (program_of code (map (block_of x) blocks))) (sym is)
+      ∙ ap (λ l. Gives (program_of code l)) (sym f)
 
 -- ---- faults that are handed on
 

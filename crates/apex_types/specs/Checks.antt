@@ -1,5 +1,5 @@
 -- The checker as a whole (docs/language.md, "Programs").
-use Rattle.std.specs.Prelude.{◌≡◌, ℕ, ◌+◌, Bool, true, false, cond, List, [], ◌∷◌, ◌++◌, map, Result, Ok, Err, ⊤}
+use Rattle.std.specs.Prelude.{◌≡◌, ℕ, ◌+◌, List, [], ◌∷◌, map, Result, Ok, Err, ⊤}
 use Rattle.fault_words.specs.declared.fault.FaultWord.TheVariants.{Expected}
 use Rattle.apex_schema.specs.declared.schema.Object.{Object}
 use Rattle.apex_syntax.specs.declared.unit.Unit.{Unit as Tree}
@@ -13,8 +13,9 @@ use Rattle.record_words.specs.Names.{object_names}
 use Rattle.type_names.specs.declared.fault.TreeFault.{TreeFault}
 use Rattle.type_names.specs.Walks.{Walk, wrong}
 use Rattle.type_names.specs.Walks as W
-use Rattle.typed_program.specs.declared.unit.TypedUnit.{TypedUnit}
+use Rattle.typed_program.specs.declared.stmt.TypedStmt.{TypedStmt}
 use Rattle.apex_types.specs.Units.{unit_step, block_step}
+use Rattle.apex_types.specs.declared.code.Code.{Code}
 use Rattle.apex_types.specs.declared.fault.CheckFault.{CheckFault}
 use Rattle.apex_types.specs.declared.fault.CheckFault.TheVariants as C
 use Rattle.apex_types.specs.declared.fault.TypeFault.{TypeFault}
@@ -39,6 +40,11 @@ abbrev pub Comes : {A : Type 0} → Check A → Result A CheckFault → Type 0
 Comes check (Ok a) = check ≡ Gives a
 Comes check (Err fault) = Fails check fault
 
+-- what calls answer that add to something
+abbrev pub Grows : {A B : Type 0} → Check B → Result A CheckFault → B → Type 0
+Grows check (Ok a) c = check ≡ Gives c
+Grows check (Err fault) c = Fails check fault
+
 -- ---- what all code of these objects and units sees
 
 abbrev pub naming : ClassMembers → ClassNames
@@ -55,33 +61,25 @@ home_of objects units = record {
 
 -- ---- units in their order
 
-abbrev pub is_class : Tree → Bool
-is_class (U.Class t) = true
-is_class (U.Interface t) = true
-is_class (U.Trigger t) = false
-is_class (U.Block stmts) = false
-
--- the number of the next class or interface behind a unit
-abbrev pub class_after : Tree → ℕ → ℕ
-class_after t class = cond (is_class t) (class + 1) class
-
 abbrev pub in_unit : {A : Type 0} → ℕ → Walk A → Check A
 in_unit n (W.Gives a) = Gives a
 in_unit n (W.Wrong fault) = Wrong (record { unit = n; fault = fault })
 
-module _ (objects : List (List ℕ)) (all : List Tree) (h : Home) where
-  abbrev pub unit_of : ℕ → ℕ → Tree → Check TypedUnit
-  unit_of n class t = in_unit n (unit_step objects all h n class t)
+abbrev pub no_code : Code
+no_code = record { classes = []; triggers = [] }
 
-  -- from the unit with this number on, and with the number of the next class or interface
-  abbrev pub units_from : ℕ → ℕ → List Tree → List TypedUnit → Check (List TypedUnit)
-  units_from n class [] so_far = Gives so_far
-  units_from n class (t ∷ ts) so_far =
-      next (unit_of n class t) (λ made. units_from (n + 1) (class_after t class) ts (so_far ++ made ∷ []))
+module _ (objects : List (List ℕ)) (all : List Tree) (h : Home) where
+  abbrev pub unit_of : ℕ → Tree → Code → Check Code
+  unit_of n t code = in_unit n (unit_step objects all h n t code)
+
+  -- from the unit with this number on
+  abbrev pub units_from : ℕ → List Tree → Code → Check Code
+  units_from n [] code = Gives code
+  units_from n (t ∷ ts) code = next (unit_of n t code) (units_from (n + 1) ts)
 
 -- ---- blocks, each by itself
 
-abbrev pub block_walk : Home → Tree → Walk TypedUnit
+abbrev pub block_walk : Home → Tree → Walk (List TypedStmt)
 block_walk h (U.Block stmts) = block_step h stmts
 block_walk h _ = wrong Expected 0
 
@@ -89,20 +87,17 @@ abbrev pub settled : {A : Type 0} → Walk A → Result A TreeFault
 settled (W.Gives a) = Ok a
 settled (W.Wrong fault) = Err fault
 
-abbrev pub block_of : Home → Tree → Result TypedUnit TreeFault
+abbrev pub block_of : Home → Tree → Result (List TypedStmt) TreeFault
 block_of h t = settled (block_walk h t)
 
 -- ---- programs
 
 -- the code of all units, or their first fault
-abbrev pub typed_units : List Object → List Tree → Check (List TypedUnit)
-typed_units objects units = units_from (object_names objects) units (home_of objects units) 0 0 units []
+abbrev pub typed_units : List Object → List Tree → Check Code
+typed_units objects units = units_from (object_names objects) units (home_of objects units) 0 units no_code
 
-abbrev pub code_of : List Object → List Tree → List Tree → Check (List TypedUnit × List (Result TypedUnit TreeFault))
-code_of objects units blocks = next (typed_units objects units) (λ made. Gives (made, map (block_of (home_of objects units)) blocks))
-
-abbrev pub program_with : List TypedUnit × List (Result TypedUnit TreeFault) → Program
-program_with code = record { units = code.0; blocks = code.1 }
+abbrev pub program_of : Code → List (Result (List TypedStmt) TreeFault) → Program
+program_of code blocks = record { classes = code.classes; triggers = code.triggers; blocks = blocks }
 
 abbrev pub checked : List Object → List Tree → List Tree → Check Program
-checked objects units blocks = next (code_of objects units blocks) (λ code. Gives (program_with code))
+checked objects units blocks = next (typed_units objects units) (λ code. Gives (program_of code (map (block_of (home_of objects units)) blocks)))

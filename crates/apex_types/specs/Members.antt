@@ -25,13 +25,17 @@ use Rattle.type_names.specs.Walks.{Walk, Gives, onward}
 use Rattle.typed_program.specs.declared.unit.TypedClass.{TypedClass}
 use Rattle.typed_program.specs.declared.stmt.TypedStmt.{TypedStmt}
 use Rattle.typed_program.specs.declared.expr.TypedExpr.{TypedExpr}
-use Rattle.apex_types.specs.OpenClasses.{with_field, with_method, with_constructor}
+use Rattle.apex_types.specs.OpenClasses.{field_of, with_field, method_of, with_method, with_constructor}
 
 -- ---- what others see of the members that are walked through
 
 abbrev pub is_static : Option FieldHead → Bool
 is_static (Some f) = f.is_static
 is_static None = false
+
+abbrev pub is_static_method : Option MethodHead → Bool
+is_static_method (Some m) = m.is_static
+is_static_method None = false
 
 abbrev pub flag_or : Option Bool → Bool
 flag_or (Some b) = b
@@ -47,20 +51,24 @@ module _ (h : Home) (class : ℕ) where
   abbrev pub initial_of : Bool → ValueType → Option Expr → Walk (Option TypedExpr)
   initial_of static kind value = initial (scene_in h (setting h (Some class) static false) Void) [] kind value
 
+  -- whether the field that comes next is
+  abbrev pub next_is_static : TypedClass → Bool
+  next_is_static so_far = is_static (field_at h.members (record { class = class; place = length so_far.fields }))
+
   abbrev pub field_step : TypeTree → Word → Option Expr → Bool → TypedClass → Walk TypedClass
   field_step kind w value twice so_far =
       onward (field_walk h.names kind w twice) (λ k.
-      onward (initial_of (is_static (field_at h.members (record { class = class; place = length so_far.fields }))) k value) (λ tree.
-      Gives (with_field so_far tree)))
+      onward (initial_of (next_is_static so_far) k value) (λ tree.
+      Gives (with_field so_far (field_of (next_is_static so_far) tree))))
 
   abbrev pub body_where : MethodHead → Locals → Option Body → ℕ → Walk (Option (List TypedStmt))
   body_where m locals None at = Gives None
   body_where m locals (Some b) at =
       onward (method_body (scene_in h (setting h (Some class) m.is_static false) m.result) locals b at) (λ stmts. Gives (Some stmts))
 
-  abbrev pub method_of : Option MethodHead → Locals → Option Body → ℕ → Walk (Option (List TypedStmt))
-  method_of (Some m) locals body at = body_where m locals body at
-  method_of None locals body at = Gives None
+  abbrev pub body_of : Option MethodHead → Locals → Option Body → ℕ → Walk (Option (List TypedStmt))
+  body_of (Some m) locals body at = body_where m locals body at
+  body_of None locals body at = Gives None
 
   -- the method that comes next
   abbrev pub head_of : TypedClass → Option MethodHead
@@ -69,8 +77,8 @@ module _ (h : Home) (class : ℕ) where
   abbrev pub method_step : ResultTree → Word → List ParamTree → Option Body → Bool → TypedClass → Walk TypedClass
   method_step answer w params body twice so_far =
       onward (signature_walk h.names answer w params twice (overrides_well h.members h.heads class (head_of so_far))) (λ locals.
-      onward (method_of (head_of so_far) locals body w.span.from) (λ stmts.
-      Gives (with_method so_far stmts)))
+      onward (body_of (head_of so_far) locals body w.span.from) (λ stmts.
+      Gives (with_method so_far (method_of w params (is_static_method (head_of so_far)) stmts))))
 
 module _ (h : Home) (class : ℕ) (name : List ℕ) where
   abbrev pub constructor_step : Word → List ParamTree → Body → Bool → TypedClass → Walk TypedClass

@@ -1,6 +1,5 @@
 // Bodies of methods and triggers, and blocks.
 
-ghost use Rattle.std.specs.Prelude.{◌≡◌};
 ghost use Rattle.statement_walk.specs.Scenes.{scene};
 ghost use Rattle.type_names.specs.Walks.{Comes, Tells};
 ghost use Rattle.apex_types.specs.Bodies as spec;
@@ -10,20 +9,10 @@ use apex_syntax::{Body, Stmt};
 use class_tables::ResultHead;
 use fault_words::FaultWord;
 use local_scopes::Scope;
-use statement_walk::{BodyView, Inside, body_statements, ends_surely, statements};
+use statement_walk::{BodyView, body_statements, ends_surely, statements};
 use std::alloc::Global;
 use type_names::{TreeFault, WalkFault};
 use typed_program::TypedStmt;
-
-/// Where the statements of a body stand; whether it is that of a constructor.
-pub fn outside(first: bool) -> Inside
-    ensures { result ≡ spec.outside first }
-{
-    Inside {
-        in_loop: false,
-        first,
-    }
-}
 
 fn given(due: &ResultHead, tree: &Body, at: usize) -> Result<(), TreeFault>
     ensures { Tells (spec.given due.now tree.now at) result }
@@ -53,7 +42,7 @@ pub fn method_body(
     ensures { Comes (spec.method_body (scene view.now) locals tree.now at) result }
 {
     let mut scope = locals;
-    let stmts = body_statements(alloc, view, tree, outside(false), &mut scope)?;
+    let stmts = body_statements(alloc, view, tree, false, &mut scope)?;
     given(view.due, tree, at)?;
     Ok(stmts)
 }
@@ -67,5 +56,5 @@ pub fn plain_body(
     ensures { Comes (spec.plain_body (scene view.now) trees.now) result }
 {
     let mut scope = Scope::new(alloc);
-    statements(alloc, view, trees, outside(false), &mut scope)
+    statements(alloc, view, trees, false, &mut scope)
 }

@@ -1,6 +1,6 @@
 // The check of a tenant's code.
 
-ghost use Rattle.std.specs.Prelude.{◌≡◌, [], map, IfOk};
+ghost use Rattle.std.specs.Prelude.{◌≡◌, map, IfOk};
 ghost use Rattle.apex_types.specs.Homes.{home as home_in};
 ghost use Rattle.class_tables.specs.Members.{members_among};
 ghost use Rattle.class_tables.specs.Tables.{all_in, members_of};
@@ -10,10 +10,11 @@ ghost use Rattle.record_words.specs.Names.{object_names};
 ghost use Rattle.type_names.specs.Walks.{Comes};
 ghost use Rattle.apex_types.specs.Checks as spec;
 
+use crate::code::Code;
 use crate::fault::{CheckFault, TypeFault};
 use crate::home::Home;
-use crate::units::{block_unit, unit};
-use apex_list::{Boxed, Items};
+use crate::units::{block_stmts, unit};
+use apex_list::Items;
 use apex_num::NoMemory;
 use apex_schema::Schema;
 use apex_syntax::Unit;
@@ -23,29 +24,20 @@ use method_calls::MethodNames;
 use record_words::{RecordWords, object_places};
 use std::alloc::{AllocError, Global};
 use type_names::{TreeFault, WalkFault};
-use typed_program::{Program, TypedUnit};
-
-fn is_class(tree: &Unit) -> bool
-    ensures { result ≡ spec.is_class tree.now }
-{
-    match tree {
-        Unit::Class(_) | Unit::Interface(_) => true,
-        Unit::Trigger(_) | Unit::Block(_) => false,
-    }
-}
+use typed_program::{Program, TypedStmt};
 
 fn unit_of(
     alloc: Global,
     classes: &Classes,
     home: &Home,
     number: usize,
-    class: usize,
     tree: &Unit,
-) -> Result<Boxed<TypedUnit>, CheckFault>
-    ensures { spec.Comes (spec.unit_of classes.now.objects.now.names.items classes.now.units.now (home_in home.now) number class tree.now) result }
+    code: &mut Code,
+) -> Result<(), CheckFault>
+    ensures { spec.Grows (spec.unit_of classes.now.objects.now.names.items classes.now.units.now (home_in home.now) number tree.now code.old) result code.new }
 {
-    match unit(alloc, classes, home, number, class, tree) {
-        Ok(made) => Ok(made),
+    match unit(alloc, classes, home, number, tree, code) {
+        Ok(()) => Ok(()),
         Err(WalkFault::Wrong(fault)) => Err(CheckFault::Wrong(TypeFault {
             unit: number,
             fault,
@@ -59,26 +51,21 @@ fn units_of(
     classes: &Classes,
     home: &Home,
     trees: &[Unit],
-) -> Result<Items<TypedUnit>, CheckFault>
-    ensures { spec.Comes (spec.units_from classes.now.objects.now.names.items classes.now.units.now (home_in home.now) 0 0 trees.now []) result }
+    code: &mut Code,
+) -> Result<(), CheckFault>
+    ensures { spec.Grows (spec.units_from classes.now.objects.now.names.items classes.now.units.now (home_in home.now) 0 trees.now code.old) result code.new }
 {
-    let mut made = Items::new(alloc);
-    let mut class: usize = 0;
     for i in 0..trees.len() {
-        let unit = unit_of(alloc, classes, home, i, class, &trees[i])?;
-        made.push(unit.into_value())?;
-        if is_class(&trees[i]) {
-            class += 1;
-        }
+        unit_of(alloc, classes, home, i, &trees[i], code)?;
     }
-    Ok(made)
+    Ok(())
 }
 
-fn walked_block(alloc: Global, home: &Home, tree: &Unit) -> Result<Boxed<TypedUnit>, WalkFault>
+fn walked_block(alloc: Global, home: &Home, tree: &Unit) -> Result<Items<TypedStmt>, WalkFault>
     ensures { Comes (spec.block_walk (home_in home.now) tree.now) result }
 {
     match tree {
-        Unit::Block(stmts) => block_unit(alloc, home, stmts.as_slice()),
+        Unit::Block(stmts) => block_stmts(alloc, home, stmts.as_slice()),
         _ => Err(WalkFault::Wrong(TreeFault::new(FaultWord::Expected, 0))),
     }
 }
@@ -87,7 +74,7 @@ fn block_of(
     alloc: Global,
     home: &Home,
     tree: &Unit,
-) -> Result<Result<Boxed<TypedUnit>, TreeFault>, NoMemory>
+) -> Result<Result<Items<TypedStmt>, TreeFault>, NoMemory>
     ensures { IfOk result (λ b. b ≡ spec.block_of (home_in home.now) tree.now) }
 {
     match walked_block(alloc, home, tree) {
@@ -97,27 +84,16 @@ fn block_of(
     }
 }
 
-// What a box has, where there is one.
-fn bare(made: Result<Boxed<TypedUnit>, TreeFault>) -> Result<TypedUnit, TreeFault>
-    ensures { result ≡ made }
-{
-    match made {
-        Ok(unit) => Ok(unit.into_value()),
-        Err(fault) => Err(fault),
-    }
-}
-
 fn blocks_of(
     alloc: Global,
     home: &Home,
     trees: &[Unit],
-) -> Result<Items<Result<TypedUnit, TreeFault>>, NoMemory>
+) -> Result<Items<Result<Items<TypedStmt>, TreeFault>>, NoMemory>
     ensures { IfOk result (λ all. all ≡ map (spec.block_of (home_in home.now)) trees.now) }
 {
     let mut all = Items::new(alloc);
     for tree in trees {
-        let made = block_of(alloc, home, tree)?;
-        all.push(bare(made))?;
+        all.push(block_of(alloc, home, tree)?)?;
     }
     Ok(all)
 }
@@ -143,23 +119,31 @@ fn home_of<'a>(
     }
 }
 
-// The code of all units and of all blocks.
-fn code_of(
+// The code of all units, and of all blocks.
+fn program_of(
     alloc: Global,
     classes: &Classes,
     members: &MemberTables,
     words: &RecordWords,
     blocks: &[Unit],
-) -> Result<(Items<TypedUnit>, Items<Result<TypedUnit, TreeFault>>), CheckFault>
+) -> Result<Program, CheckFault>
     requires objects_are { classes.now.objects.now.names.items ≡ object_names words.now.schema.now.objects }
     requires members_are { all_in members.now ≡ members_among (known_of classes.now.objects.now.names.items classes.now.units.now) classes.now.units.now }
-    ensures { spec.Comes (spec.code_of words.now.schema.now.objects classes.now.units.now blocks.now) result }
+    ensures { spec.Comes (spec.checked words.now.schema.now.objects classes.now.units.now blocks.now) result }
 {
     let methods = MethodNames::of(alloc, members)?;
     let home = home_of(classes, members, words, &methods);
-    let made = units_of(alloc, classes, &home, classes.units)?;
-    let forms = blocks_of(alloc, &home, blocks)?;
-    Ok((made, forms))
+    let mut code = Code {
+        classes: Items::new(alloc),
+        triggers: Items::new(alloc),
+    };
+    units_of(alloc, classes, &home, classes.units, &mut code)?;
+    let blocks = blocks_of(alloc, &home, blocks)?;
+    Ok(Program {
+        classes: code.classes,
+        triggers: code.triggers,
+        blocks,
+    })
 }
 
 /// The typed program of a tenant's units and anonymous blocks, over its schema; otherwise the fault of the first unit
@@ -177,9 +161,5 @@ pub fn check(
     let words = RecordWords::of(alloc, schema)?;
     let classes = Classes::of(alloc, &objects, units)?;
     let members = MemberTables::of(alloc, &classes)?;
-    let (made, forms) = code_of(alloc, &classes, &members, &words, blocks)?;
-    Ok(Program {
-        units: made,
-        blocks: forms,
-    })
+    program_of(alloc, &classes, &members, &words, blocks)
 }

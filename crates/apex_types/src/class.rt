@@ -1,24 +1,21 @@
-// Classes and interfaces.
+// Classes.
 
 ghost use Rattle.std.specs.Prelude.{◌≡◌, slice_get};
 ghost use Rattle.std.specs.List.{list_any};
 ghost use Rattle.apex_types.specs.Homes.{home as home_of};
-ghost use Rattle.type_names.specs.TypeTrees.{known};
 ghost use Rattle.type_names.specs.Walks.{Comes};
 ghost use Rattle.apex_types.specs.Units as spec;
 
-use crate::constructor::parent_call;
+use crate::constructor::implied_call;
 use crate::home::Home;
-use crate::member::{flag_at, members};
+use crate::member::members;
 use crate::open::opened;
-use apex_syntax::{ClassTree, InterfaceTree, MemberTree, SignatureTree, Word};
+use apex_syntax::{ClassTree, MemberTree, Word};
 use class_tables::{ClassHeads, Classes};
-use class_walk::{
-    class_header, duplicates, missing_fault, signature_declared, signature_duplicates, unit_name,
-};
+use class_walk::{class_header, duplicates, missing_fault};
 use std::alloc::Global;
-use type_names::{TypeNames, WalkFault};
-use typed_program::{ParentCall, TypedClass};
+use type_names::WalkFault;
+use typed_program::{ImpliedCall, TypedClass};
 
 fn declares_constructors(trees: &[MemberTree]) -> bool
     ensures { result ≡ list_any spec.is_constructor trees.now }
@@ -54,14 +51,14 @@ fn undeclared_call(
     home: &Home,
     class: usize,
     tree: &ClassTree,
-) -> Result<ParentCall, WalkFault>
+) -> Result<Option<ImpliedCall>, WalkFault>
     ensures { Comes (spec.undeclared_call (home_of home.now) class tree.now) result }
 {
     if declares_constructors(tree.members.as_slice()) {
-        return Ok(ParentCall::Nothing);
+        return Ok(None);
     }
     let setting = home.setting(Some(class), false, true);
-    parent_call(
+    implied_call(
         alloc,
         &setting,
         class,
@@ -77,7 +74,7 @@ fn opening(
     unit: usize,
     class: usize,
     tree: &ClassTree,
-) -> Result<ParentCall, WalkFault>
+) -> Result<Option<ImpliedCall>, WalkFault>
     ensures { Comes (spec.opening classes.now.objects.now.names.items classes.now.units.now (home_of home.now) unit class tree.now) result }
 {
     class_header(classes, unit, tree)?;
@@ -103,51 +100,11 @@ pub fn class(
 ) -> Result<TypedClass, WalkFault>
     ensures { Comes (spec.class_step classes.now.objects.now.names.items classes.now.units.now (home_of home.now) unit class tree.now) result }
 {
-    let parent = opening(alloc, classes, home, unit, class, tree)?;
+    let implied = opening(alloc, classes, home, unit, class, tree)?;
     let trees = tree.members.as_slice();
     let flags = duplicates(alloc, trees)?;
     let flags = flags.as_slice();
-    let mut made = opened(alloc, parent);
+    let mut made = opened(alloc, home.lines, class, &tree.written, implied)?;
     members(alloc, home, class, &tree.name.name, flags, trees, &mut made)?;
     Ok(made)
-}
-
-fn signatures(
-    alloc: Global,
-    names: &TypeNames,
-    flags: &[bool],
-    trees: &[SignatureTree],
-) -> Result<(), WalkFault>
-    ensures { Comes (spec.signatures_from (known names.now) flags.now 0 trees.now) result }
-{
-    for i in 0..trees.len() {
-        let tree = &trees[i];
-        let params = tree.params.as_slice();
-        signature_declared(
-            alloc,
-            names,
-            &tree.result,
-            &tree.name,
-            params,
-            flag_at(flags, i),
-            true,
-        )?;
-    }
-    Ok(())
-}
-
-/// An interface, the unit with this number.
-pub fn interface(
-    alloc: Global,
-    classes: &Classes,
-    home: &Home,
-    unit: usize,
-    tree: &InterfaceTree,
-) -> Result<(), WalkFault>
-    ensures { Comes (spec.interface_step classes.now.objects.now.names.items classes.now.units.now (home_of home.now) unit tree.now) result }
-{
-    unit_name(classes, unit, &tree.name)?;
-    let trees = tree.methods.as_slice();
-    let flags = signature_duplicates(alloc, trees)?;
-    signatures(alloc, &home.names, flags.as_slice(), trees)
 }

@@ -4,12 +4,15 @@
 mod body;
 mod checker;
 mod class;
+mod code;
 mod constructor;
 mod fault;
 mod home;
+mod interface;
 mod member;
 mod open;
 mod units;
+mod written;
 
 pub use checker::check;
 pub use fault::{CheckFault, TypeFault};

@@ -33,6 +33,15 @@ fn is_static(field: Option<&FieldHead>) -> bool
     }
 }
 
+fn is_static_method(method: Option<&MethodHead>) -> bool
+    ensures { result ≡ spec.is_static_method (option_copied method.entry) }
+{
+    match method {
+        Some(method) => method.is_static,
+        None => false,
+    }
+}
+
 /// Whether the member at a place is named twice.
 pub fn flag_at(flags: &[bool], place: usize) -> bool
     ensures { result ≡ spec.flag_at flags.now place }
@@ -80,7 +89,7 @@ fn field(
     let place = so_far.fields.len();
     let is_static = is_static(home.members.field_at(Member { class, place }));
     let tree = initial_of(alloc, home, class, is_static, &kind, value)?;
-    Ok(add_field(so_far, tree)?)
+    Ok(add_field(so_far, is_static, tree)?)
 }
 
 fn body_where(
@@ -109,7 +118,7 @@ fn body_where(
     }
 }
 
-fn method_of(
+fn body_of(
     alloc: Global,
     home: &Home,
     class: usize,
@@ -118,7 +127,7 @@ fn method_of(
     tree: &Option<Body>,
     at: usize,
 ) -> Result<Option<Items<TypedStmt>>, WalkFault>
-    ensures { Comes (spec.method_of (home_of home.now) class (option_copied method.entry) locals tree.now at) result }
+    ensures { Comes (spec.body_of (home_of home.now) class (option_copied method.entry) locals tree.now at) result }
 {
     match method {
         Some(method) => body_where(alloc, home, class, method, locals, tree, at),
@@ -143,8 +152,8 @@ fn method(
     let head = home.members.method_at(Member { class, place });
     let well = overrides_well(home.members, home.lines, class, head)?;
     let locals = signature_declared(alloc, &home.names, answer, word, params, twice, well)?;
-    let stmts = method_of(alloc, home, class, head, locals, tree, word.span.from)?;
-    Ok(add_method(so_far, stmts)?)
+    let stmts = body_of(alloc, home, class, head, locals, tree, word.span.from)?;
+    Ok(add_method(so_far, word, params, is_static_method(head), stmts)?)
 }
 
 fn constructor(

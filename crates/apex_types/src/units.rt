@@ -1,20 +1,26 @@
 // Units.
 
+ghost use Rattle.std.specs.Prelude.{◌≡◌, map, IfOk};
 ghost use Rattle.apex_types.specs.Homes.{home as home_of};
-ghost use Rattle.type_names.specs.Walks.{Comes};
+ghost use Rattle.type_names.specs.Walks.{Comes, Gives, onward};
+ghost use Rattle.apex_types.specs.OpenClasses.{Grows};
 ghost use Rattle.apex_types.specs.Units as spec;
 
 use crate::body::plain_body;
-use crate::class::{class as class_of, interface};
+use crate::class::class as class_of;
+use crate::code::Code;
 use crate::home::Home;
-use apex_list::{Boxed, Items};
-use apex_syntax::{ClassTree, InterfaceTree, Stmt, TriggerTree, Unit};
+use crate::interface::interface;
+use crate::written::text_of;
+use apex_list::Items;
+use apex_num::NoMemory;
+use apex_syntax::{ClassTree, EventTree, InterfaceTree, Stmt, TriggerTree, Unit};
 use class_tables::{Classes, ResultHead};
 use class_walk::trigger_header;
 use statement_walk::BodyView;
 use std::alloc::Global;
 use type_names::WalkFault;
-use typed_program::{TypedStmt, TypedUnit};
+use typed_program::{TypedEvent, TypedStmt, TypedTrigger};
 
 fn trigger_body(
     alloc: Global,
@@ -34,18 +40,53 @@ fn trigger_body(
     plain_body(alloc, &view, trees)
 }
 
+fn events_of(alloc: Global, trees: &[EventTree]) -> Result<Items<TypedEvent>, NoMemory>
+    ensures { IfOk result (λ all. all ≡ map spec.event_of trees.now) }
+{
+    let mut all = Items::new(alloc);
+    for tree in trees {
+        all.push(TypedEvent {
+            after: tree.after,
+            op: tree.op,
+        })?;
+    }
+    Ok(all)
+}
+
+fn trigger_of(
+    alloc: Global,
+    tree: &TriggerTree,
+    object: usize,
+    body: Items<TypedStmt>,
+) -> Result<TypedTrigger, NoMemory>
+    ensures { IfOk result (λ t. t ≡ spec.trigger_of tree.now object body) }
+{
+    let name = text_of(alloc, &tree.written)?;
+    let folded = tree.name.name.copy()?;
+    let events = events_of(alloc, tree.events.as_slice())?;
+    Ok(TypedTrigger {
+        name,
+        folded,
+        object,
+        events,
+        body,
+    })
+}
+
 fn trigger(
     alloc: Global,
     classes: &Classes,
     home: &Home,
     unit: usize,
     tree: &TriggerTree,
-) -> Result<Boxed<TypedUnit>, WalkFault>
-    ensures { Comes (spec.trigger_step classes.now.objects.now.names.items classes.now.units.now (home_of home.now) unit tree.now) result }
+    code: &mut Code,
+) -> Result<(), WalkFault>
+    ensures { Grows (onward (spec.trigger_step classes.now.objects.now.names.items classes.now.units.now (home_of home.now) unit tree.now) (λ made. Gives (spec.with_trigger code.old made))) result code.new }
 {
     let object = trigger_header(classes, unit, tree)?;
     let stmts = trigger_body(alloc, home, object, tree.body.stmts.as_slice())?;
-    Ok(Boxed::new(alloc, TypedUnit::Trigger(object, stmts))?)
+    code.triggers.push(trigger_of(alloc, tree, object, stmts)?)?;
+    Ok(())
 }
 
 fn class_unit(
@@ -53,13 +94,13 @@ fn class_unit(
     classes: &Classes,
     home: &Home,
     unit: usize,
-    class: usize,
     tree: &ClassTree,
-) -> Result<Boxed<TypedUnit>, WalkFault>
-    ensures { Comes (spec.class_unit classes.now.objects.now.names.items classes.now.units.now (home_of home.now) unit class tree.now) result }
+    code: &mut Code,
+) -> Result<(), WalkFault>
+    ensures { Grows (spec.class_unit classes.now.objects.now.names.items classes.now.units.now (home_of home.now) unit tree.now code.old) result code.new }
 {
-    let made = class_of(alloc, classes, home, unit, class, tree)?;
-    Ok(Boxed::new(alloc, TypedUnit::Class(made))?)
+    let made = class_of(alloc, classes, home, unit, code.classes.len(), tree)?;
+    Ok(code.classes.push(made)?)
 }
 
 fn interface_unit(
@@ -68,15 +109,20 @@ fn interface_unit(
     home: &Home,
     unit: usize,
     tree: &InterfaceTree,
-) -> Result<Boxed<TypedUnit>, WalkFault>
-    ensures { Comes (spec.interface_unit classes.now.objects.now.names.items classes.now.units.now (home_of home.now) unit tree.now) result }
+    code: &mut Code,
+) -> Result<(), WalkFault>
+    ensures { Grows (spec.interface_unit classes.now.objects.now.names.items classes.now.units.now (home_of home.now) unit tree.now code.old) result code.new }
 {
-    interface(alloc, classes, home, unit, tree)?;
-    Ok(Boxed::new(alloc, TypedUnit::Interface)?)
+    let made = interface(alloc, classes, home, unit, code.classes.len(), tree)?;
+    Ok(code.classes.push(made)?)
 }
 
-/// A block, or its first fault.
-pub fn block_unit(alloc: Global, home: &Home, trees: &[Stmt]) -> Result<Boxed<TypedUnit>, WalkFault>
+/// The statements of a block, or their first fault.
+pub fn block_stmts(
+    alloc: Global,
+    home: &Home,
+    trees: &[Stmt],
+) -> Result<Items<TypedStmt>, WalkFault>
     ensures { Comes (spec.block_step (home_of home.now) trees.now) result }
 {
     let setting = home.setting(None, true, false);
@@ -86,27 +132,33 @@ pub fn block_unit(alloc: Global, home: &Home, trees: &[Stmt]) -> Result<Boxed<Ty
         methods: home.methods,
         due: &due,
     };
-    let stmts = plain_body(alloc, &view, trees)?;
-    Ok(Boxed::new(alloc, TypedUnit::Block(stmts))?)
+    plain_body(alloc, &view, trees)
 }
 
-/// The unit with the first number, which has the second one among classes and interfaces where it is one: its typed form,
-/// or its first fault. The header of a class comes first, then `MissingMethod`, the parent's constructor that it calls
-/// without saying so, and its members.
+fn block_unit(alloc: Global, home: &Home, trees: &[Stmt], code: &mut Code) -> Result<(), WalkFault>
+    ensures { Grows (onward (spec.block_step (home_of home.now) trees.now) (λ _. Gives code.old)) result code.new }
+{
+    let _ = block_stmts(alloc, home, trees)?;
+    Ok(())
+}
+
+/// The unit with this number, behind the code of those before it: its typed form comes to that code, or its first fault.
+/// The header of a class comes first, then `MissingMethod`, the parent's constructor that it calls without saying so, and
+/// its members. A block has no place among units; its fault is told all the same.
 pub fn unit(
     alloc: Global,
     classes: &Classes,
     home: &Home,
     number: usize,
-    class: usize,
     tree: &Unit,
-) -> Result<Boxed<TypedUnit>, WalkFault>
-    ensures { Comes (spec.unit_step classes.now.objects.now.names.items classes.now.units.now (home_of home.now) number class tree.now) result }
+    code: &mut Code,
+) -> Result<(), WalkFault>
+    ensures { Grows (spec.unit_step classes.now.objects.now.names.items classes.now.units.now (home_of home.now) number tree.now code.old) result code.new }
 {
     match tree {
-        Unit::Class(tree) => class_unit(alloc, classes, home, number, class, tree),
-        Unit::Interface(tree) => interface_unit(alloc, classes, home, number, tree),
-        Unit::Trigger(tree) => trigger(alloc, classes, home, number, tree),
-        Unit::Block(trees) => block_unit(alloc, home, trees.as_slice()),
+        Unit::Class(tree) => class_unit(alloc, classes, home, number, tree, code),
+        Unit::Interface(tree) => interface_unit(alloc, classes, home, number, tree, code),
+        Unit::Trigger(tree) => trigger(alloc, classes, home, number, tree, code),
+        Unit::Block(trees) => block_unit(alloc, home, trees.as_slice(), code),
     }
 }

@@ -57,7 +57,7 @@ fn main(rt: HostRuntime) -> anyhow::Result<ExitCode> {
         print!(rt; "{elapsed} ")?;
     }
     match checked {
-        Ok(program) => println!(rt; "ok {}", program.units.len())?,
+        Ok(_) => println!(rt; "ok {}", units.len())?,
         Err(CheckFault::Wrong(fault)) => {
             println!(rt;
                 "unit {} {} {:?}",

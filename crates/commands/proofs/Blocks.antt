@@ -9,12 +9,8 @@ use Rattle.apex_rows.specs.declared.query.Question.{Question}
 use Rattle.apex_rows.specs.declared.row.Row.{Row}
 use Rattle.apex_rows.specs.declared.row.Writes.{Writes}
 use Rattle.apex_schema.specs.declared.schema.Schema.{Schema}
-use Rattle.apex_syntax.specs.declared.stmt.Stmt.{Stmt}
 use Rattle.apex_syntax.specs.declared.unit.Unit.{Unit as Tree}
-use Rattle.apex_syntax.specs.declared.unit.Unit.TheVariants as U
-use Rattle.apex_types.specs.Bodies.{plain_body}
-use Rattle.apex_types.specs.Checks.{Check, Gives, checked, block_of, home_of, settled}
-use Rattle.apex_types.specs.Homes.{Home, setting, scene_in}
+use Rattle.apex_types.specs.Checks.{Check, Gives, checked, block_of, home_of}
 use Rattle.fault_words.specs.declared.fault.Fault.{Fault}
 use Rattle.record_store.specs.Places.{answer_to}
 use Rattle.session_runs.specs.Blocks.{RunsTo}
@@ -25,16 +21,11 @@ use Rattle.tenant_trails.specs.Runs.{Run, Asks, Ends, Follows, Evaluates}
 use Rattle.tenant_units.specs.Faults.{IsFaultOf}
 use Rattle.tenant_units.specs.Trees.{block_rule, block_name, IsBlock}
 use Rattle.type_names.specs.declared.fault.TreeFault.{TreeFault}
-use Rattle.type_names.specs.Walks.{Walk, onward}
-use Rattle.type_names.specs.Walks as W
 use Rattle.typed_program.specs.declared.program.Program.{Program}
 use Rattle.typed_program.specs.declared.stmt.TypedStmt.{TypedStmt}
-use Rattle.typed_program.specs.declared.unit.TypedUnit.{TypedUnit}
-use Rattle.typed_program.specs.declared.unit.TypedUnit.TheVariants.{Block}
 use Rattle.commands.specs.declared.answer.Made.{Made}
 use Rattle.commands.specs.declared.answer.Made.TheVariants.{Text, Line}
 use Rattle.commands.specs.Answers.{Makes}
-use Rattle.class_tables.specs.declared.member.ResultHead.TheVariants.{Void}
 use Rattle.commands.specs.Exec.{schema, ticket, program_of, IsJudged, ComesTo, IsRun, IsInput, Replied, IsWhy, IsRefused}
 use Rattle.commands.specs.Made.{IsOnlyTree, IsOnlyBlock, IsOfBlock, line, IsTold, IsLineOf, kept_of}
 
@@ -90,7 +81,7 @@ pub program_is : (tree : Tree) (program : Program) → checked schema.objects []
 program_is tree program e = given e
 
 -- what bytes of one tree are judged is what the checker judges of that
-pub judged_is : (bytes : List ℕ) (tree : Tree) (program : Program) (block : Result TypedUnit TreeFault)
+pub judged_is : (bytes : List ℕ) (tree : Tree) (program : Program) (block : Result (List TypedStmt) TreeFault)
     → IsOnlyTree bytes tree → checked schema.objects [] (tree ∷ []) ≡ Gives program → IsJudged bytes block → program_of block ≡ program
 judged_is bytes tree program block t e j =
     given (sym e ∙ ap (λ x. checked schema.objects [] (x ∷ [])) (sym (t.only j.tree j.is_tree)) ∙ j.judged)
@@ -98,27 +89,27 @@ judged_is bytes tree program block t e j =
 same_first : {A : Type 0} {one other : A} → one ∷ [] ≡ other ∷ [] → one ≡ other
 same_first e = cc
 
-only_block : {one other : Result TypedUnit TreeFault} → program_of one ≡ program_of other → one ≡ other
+only_block : {one other : Result (List TypedStmt) TreeFault} → program_of one ≡ program_of other → one ≡ other
 only_block e = same_first (ap (λ (program : Program). program.blocks) e)
 
-same_block : {one other : List TypedStmt} → ◌≡◌ {A = Result TypedUnit TreeFault} (Ok (Block one)) (Ok (Block other)) → one ≡ other
+same_block : {one other : List TypedStmt} → ◌≡◌ {A = Result (List TypedStmt) TreeFault} (Ok one) (Ok other) → one ≡ other
 same_block e = cc
 
-pub judged_of : (bytes : List ℕ) (tree : Tree) (program : Program) (block : Result TypedUnit TreeFault)
+pub judged_of : (bytes : List ℕ) (tree : Tree) (program : Program) (block : Result (List TypedStmt) TreeFault)
     → IsOnlyTree bytes tree → checked schema.objects [] (tree ∷ []) ≡ Gives program → program ≡ program_of block → IsJudged bytes block
 judged_of bytes tree program block t e p = record { tree = tree; is_tree = t.is; judged = e ∙ ap (λ x. Gives x) p }
 
 pub only_of : (bytes : List ℕ) (tree : Tree) (program : Program) (block : List TypedStmt)
-    → IsOnlyTree bytes tree → checked schema.objects [] (tree ∷ []) ≡ Gives program → program ≡ program_of (Ok (Block block)) → IsOnlyBlock bytes block
+    → IsOnlyTree bytes tree → checked schema.objects [] (tree ∷ []) ≡ Gives program → program ≡ program_of (Ok block) → IsOnlyBlock bytes block
 only_of bytes tree program block t e p =
     record {
-      is = judged_of bytes tree program (Ok (Block block)) t e p;
-      only = λ other o. same_block (only_block (judged_is bytes tree program (Ok (Block other)) t e o ∙ p));
+      is = judged_of bytes tree program (Ok block) t e p;
+      only = λ other o. same_block (only_block (judged_is bytes tree program (Ok other) t e o ∙ p));
     }
 
 -- ---- what is made of it
 
-ill_and_well : {fault : TreeFault} {block : List TypedStmt} → ◌≡◌ {A = Result TypedUnit TreeFault} (Ok (Block block)) (Err fault) → ⊥
+ill_and_well : {fault : TreeFault} {block : List TypedStmt} → ◌≡◌ {A = Result (List TypedStmt) TreeFault} (Ok block) (Err fault) → ⊥
 ill_and_well e = cc
 
 refused_of : (image : Option Image) (bytes : List ℕ) (made : Made) (told : Fault) → (IsInput bytes → ⊥) → image ≡ None → IsWhy bytes told → made ≡ line told → Makes (Replied image) (IsRefused image) bytes made
@@ -135,7 +126,7 @@ pub ill_typed : (image old : Option Image) (bytes : List ℕ) (tree : Tree) (pro
     → IsOnlyTree bytes tree → checked schema.objects [] (tree ∷ []) ≡ Gives program → program ≡ program_of (Err fault) → IsLineOf bytes fault made → image ≡ old → old ≡ None → Makes (Replied image) (IsRefused image) bytes made
 ill_typed image old bytes tree program fault made t e p l i o =
     let judged = judged_of bytes tree program (Err fault) t e p in
-    let none : IsInput bytes → ⊥ = λ input. ill_and_well (only_block (judged_is bytes tree program (Ok (Block input.block)) t e input.is ∙ p)) in
+    let none : IsInput bytes → ⊥ = λ input. ill_and_well (only_block (judged_is bytes tree program (Ok input.block) t e input.is ∙ p)) in
     refused_of image bytes made l.0 none (i ∙ o) (inr (inl (record { fault = fault; is = judged; tells = l.1 }))) l.2
 
 -- ---- a block that was run
@@ -179,24 +170,11 @@ made_of (Line text) bytes block kept image old reply writes b m r comes t i o = 
 pub runs_input : (image : Option Image) (bytes text : List ℕ) → Replied image bytes text → IsInput bytes
 runs_input image bytes text r = record { block = r.block; is = r.is; reply = plain r.reply; writes = r.writes; comes = r.comes; runs = r.runs }
 
--- ---- the typed code of a tree that is a block is a block
+-- ---- a block is well typed, or has a fault
 
-settles : (walk : Walk (List TypedStmt)) → ((stmts : List TypedStmt) × (settled (onward walk (λ done. W.Gives (Block done))) ≡ Ok (Block stmts))) ⊎ ((fault : TreeFault) × (settled (onward walk (λ done. W.Gives (Block done))) ≡ Err fault))
-settles (W.Gives stmts) = inl (stmts, refl)
-settles (W.Wrong fault) = inr (fault, refl)
-
-block_alone : (home : Home) (stmts : List Stmt) → ((block : List TypedStmt) × (block_of home (U.Block stmts) ≡ Ok (Block block))) ⊎ ((fault : TreeFault) × (block_of home (U.Block stmts) ≡ Err fault))
-block_alone home stmts = settles (plain_body (scene_in home (setting home None true false) Void) stmts)
-
-placed : (program : Program) (one : Result TypedUnit TreeFault) → program ≡ program_of one → ((block : List TypedStmt) × (one ≡ Ok (Block block))) ⊎ ((fault : TreeFault) × (one ≡ Err fault)) → IsOfBlock program
-placed program one p (inl b) = inl (b.0, p ∙ ap program_of b.1)
-placed program one p (inr f) = inr (f.0, p ∙ ap program_of f.1)
-
-of_tree : (tree : Tree) (program : Program) → program ≡ program_of (block_of (home_of schema.objects []) tree) → IsOfBlock program
-of_tree (U.Block stmts) program p = placed program _ p (block_alone (home_of schema.objects []) stmts)
-of_tree (U.Class c) program p = placed program _ p (inr (_, refl))
-of_tree (U.Interface c) program p = placed program _ p (inr (_, refl))
-of_tree (U.Trigger c) program p = placed program _ p (inr (_, refl))
+placed : (program : Program) (one : Result (List TypedStmt) TreeFault) → program ≡ program_of one → IsOfBlock program
+placed program (Ok block) p = inl (block, p)
+placed program (Err fault) p = inr (fault, p)
 
 pub of_block : (tree : Tree) (program : Program) → checked schema.objects [] (tree ∷ []) ≡ Gives program → IsOfBlock program
-of_block tree program e = of_tree tree program (program_is tree program e)
+of_block tree program e = placed program _ (program_is tree program e)

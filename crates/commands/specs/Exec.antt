@@ -16,8 +16,6 @@ use Rattle.tenant_units.specs.Trees.{block_rule, block_name, IsBlock}
 use Rattle.type_names.specs.declared.fault.TreeFault.{TreeFault}
 use Rattle.typed_program.specs.declared.program.Program.{Program}
 use Rattle.typed_program.specs.declared.stmt.TypedStmt.{TypedStmt}
-use Rattle.typed_program.specs.declared.unit.TypedUnit.{TypedUnit}
-use Rattle.typed_program.specs.declared.unit.TypedUnit.TheVariants.{Block}
 use Rattle.apex_types.specs.Checks.{Gives, checked}
 use Rattle.apex_meaning.specs.Runs.{Setting, run}
 use Rattle.tenant_trails.specs.Runs.{Evaluates}
@@ -42,23 +40,23 @@ abbrev pub ticket : Ticket
 ticket = record { session = 0; index = 0; user = 0; now = pos 946684800 }
 
 -- the program that has this block and nothing else
-abbrev pub program_of : Result TypedUnit TreeFault → Program
-program_of block = record { units = []; blocks = block ∷ [] }
+abbrev pub program_of : Result (List TypedStmt) TreeFault → Program
+program_of block = record { classes = []; triggers = []; blocks = block ∷ [] }
 
 abbrev pub setting : List TypedStmt → Setting
-setting block = record { schema = schema; program = program_of (Ok (Block block)); ticket = ticket }
+setting block = record { schema = schema; program = program_of (Ok block); ticket = ticket }
 
 -- ---- bytes that are a block
 
 -- the bytes are the text of a block, and the checker judges it so: its typed code, or its first fault
-pub record IsJudged (bytes : List ℕ) (block : Result TypedUnit TreeFault) : Type 0 where
+pub record IsJudged (bytes : List ℕ) (block : Result (List TypedStmt) TreeFault) : Type 0 where
   pub tree : Tree
   pub is_tree : IsBlock bytes tree
   pub judged : checked schema.objects [] (tree ∷ []) ≡ Gives (program_of block)
 
 -- the bytes are this well-typed block
 abbrev pub IsTyped : List ℕ → List TypedStmt → Type 0
-IsTyped bytes block = IsJudged bytes (Ok (Block block))
+IsTyped bytes block = IsJudged bytes (Ok block)
 
 -- where there is no row, the block comes to this reply, and would write this
 abbrev pub ComesTo : List TypedStmt → Reply → Writes → Type 0

@@ -9,7 +9,6 @@ use Rattle.tenant_units.specs.Trees.{block_name, IsBlock}
 use Rattle.type_names.specs.declared.fault.TreeFault.{TreeFault}
 use Rattle.typed_program.specs.declared.program.Program.{Program}
 use Rattle.typed_program.specs.declared.stmt.TypedStmt.{TypedStmt}
-use Rattle.typed_program.specs.declared.unit.TypedUnit.TheVariants.{Block}
 use Rattle.stack_code.specs.declared.code.Image.{Image}
 use Rattle.reply_text.specs.Lines.{reply_text}
 use Rattle.commands.specs.declared.answer.Made.{Made}
@@ -28,7 +27,7 @@ pub record IsOnlyBlock (bytes : List ℕ) (block : List TypedStmt) : Type 0 wher
 
 -- it has one block, well typed or not
 abbrev pub IsOfBlock : Program → Type 0
-IsOfBlock program = ((block : List TypedStmt) × (program ≡ program_of (Ok (Block block)))) ⊎ ((fault : TreeFault) × (program ≡ program_of (Err fault)))
+IsOfBlock program = ((block : List TypedStmt) × (program ≡ program_of (Ok block))) ⊎ ((fault : TreeFault) × (program ≡ program_of (Err fault)))
 
 abbrev pub text : Reply → Made
 text reply = Text (reply_text reply)

@@ -2,7 +2,6 @@
 
 ghost use Rattle.std.specs.Prelude.{◌≡◌, [], ◌∷◌, Ok, Err, IfOk, MatchResult};
 ghost use Rattle.apex_types.specs.Checks.{Gives, checked};
-ghost use Rattle.typed_program.specs.declared.unit.TypedUnit.TheVariants.{Block};
 ghost use Rattle.commands.specs.Exec as spec;
 ghost use Rattle.commands.specs.Made as shown;
 
@@ -16,7 +15,7 @@ use schema_plans::{SchemaFault, SchemaPlan, UserPlan};
 use std::alloc::{AllocError, Global};
 use std::slice;
 use type_names::TreeFault;
-use typed_program::{Program, TypedStmt, TypedUnit};
+use typed_program::{Program, TypedStmt};
 
 // One user, and no object but the platform's own.
 fn plan(alloc: Global) -> Result<SchemaPlan, NoMemory>
@@ -60,13 +59,11 @@ pub fn program_of(alloc: Global, schema: &Schema, tree: &Unit) -> Result<Program
 /// The typed code of the block in such a program, or its first fault.
 pub fn block_in(program: &Program) -> Result<&[TypedStmt], &TreeFault>
     requires { shown.IsOfBlock program.now }
-    ensures { MatchResult result (λ block. program.now ≡ spec.program_of (Ok (Block block.now))) (λ fault. program.now ≡ spec.program_of (Err fault.now)) }
+    ensures { MatchResult result (λ block. program.now ≡ spec.program_of (Ok block.now)) (λ fault. program.now ≡ spec.program_of (Err fault.now)) }
 {
     match program.blocks.get(0) {
-        Some(Ok(TypedUnit::Block(stmts))) => Ok(stmts.as_slice()),
+        Some(Ok(stmts)) => Ok(stmts.as_slice()),
         Some(Err(fault)) => Err(fault),
-        Some(Ok(TypedUnit::Class(_) | TypedUnit::Interface | TypedUnit::Trigger(_, _))) | None => {
-            unreachable!()
-        }
+        None => unreachable!(),
     }
 }

@@ -56,8 +56,9 @@ use Rattle.type_names.specs.Walks.{Walk, Gives, wrong, onward, all}
 use Rattle.typed_operations.specs.Casts.{cast_to}
 use Rattle.typed_operations.specs.Chains.{begun, with_operand, closed}
 use Rattle.typed_operations.specs.Choices.{chosen}
-use Rattle.typed_operations.specs.Prefixes.{writable}
+use Rattle.typed_operations.specs.Places.{writable}
 use Rattle.typed_operations.specs.declared.chain.OpenChain.{OpenChain}
+use Rattle.typed_operations.specs.declared.place.Target.{Target}
 use Rattle.typed_program.specs.declared.expr.CollectionKind.{CollectionKind}
 use Rattle.typed_program.specs.declared.expr.CollectionKind.TheVariants as C
 use Rattle.typed_program.specs.declared.expr.TypedBind.{TypedBind}
@@ -164,8 +165,8 @@ module _ (s : Sight) where
   chain_of operands first = onward (operands_from operands (begun first)) (λ chain. Gives (closed chain))
 
   -- that the target may be assigned to is told before the faults of the value
-  abbrev pub assignment : (Typed → Typed → Walk Typed) → Walk Typed → Typed → Walk Typed
-  assignment assigned_to value target = onward (writable target) (λ _. onward (valued value) (assigned_to target))
+  abbrev pub assignment : (Target → Typed → Walk Typed) → Walk Typed → Typed → Walk Typed
+  assignment assigned_to value x = onward (writable x) (λ target. onward (valued value) (assigned_to target))
 
   abbrev pub query_of : ℕ → QueryWalk → Walk Typed
   query_of at q =

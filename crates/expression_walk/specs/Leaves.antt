@@ -24,6 +24,7 @@ use Rattle.static_types.specs.declared.kind.Primitive.TheVariants as P
 use Rattle.static_types.specs.declared.kind.ValueType.TheVariants as V
 use Rattle.type_names.specs.Walks.{Walk, Gives, wrong, onward}
 use Rattle.typed_operations.specs.Assignments.{assigned, assigned_with}
+use Rattle.typed_operations.specs.declared.place.Target.{Target}
 use Rattle.typed_operations.specs.Prefixes.{negated, opposite, stepped}
 use Rattle.typed_program.specs.declared.expr.Constant.{Constant}
 use Rattle.typed_program.specs.declared.expr.Constant.TheVariants as K
@@ -97,11 +98,11 @@ operator A.Subtract = Some B.Minus
 operator A.Multiply = Some B.Times
 operator A.Divide = Some B.Over
 
-abbrev pub assigned_as : Option BinaryOp → List ClassHead → Typed → Typed → Walk Typed
+abbrev pub assigned_as : Option BinaryOp → List ClassHead → Target → Typed → Walk Typed
 assigned_as (Some op) heads target value = assigned_with heads target op value
 assigned_as None heads target value = assigned heads target value
 
-abbrev pub assigned_by : List ClassHead → Typed → AssignOp → Typed → Walk Typed
+abbrev pub assigned_by : List ClassHead → Target → AssignOp → Typed → Walk Typed
 assigned_by heads target op value = assigned_as (operator op) heads target value
 
 -- ---- calls

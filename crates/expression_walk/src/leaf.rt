@@ -16,7 +16,7 @@ use static_types::{Primitive, ValueType};
 use std::alloc::Global;
 use type_names::{TreeFault, WalkFault};
 use typed_calls::{builtin_call, debug_call, method_call, static_call, type_call};
-use typed_operations::{assigned, assigned_with, negated, opposite, stepped};
+use typed_operations::{Target, assigned, assigned_with, negated, opposite, stepped};
 use typed_program::{Constant, StepKind, TypedExpr};
 use typed_values::{Kind, Role, Typed};
 
@@ -173,7 +173,7 @@ fn operator(op: AssignOp) -> Option<BinaryOp>
 pub fn assigned_by(
     alloc: Global,
     lines: &ClassHeads,
-    target: Typed,
+    target: Target,
     op: AssignOp,
     value: Typed,
 ) -> Result<Typed, WalkFault>

@@ -2,16 +2,18 @@
 //! (docs/language.md, "The machine of typed code").
 #![tactic(auto)]
 
+mod ends;
 mod modes;
 mod moved;
-mod operate;
 mod records;
 mod run;
+mod saves;
 mod saving;
 mod sizes;
 mod step;
 mod texts;
+mod things;
+mod values;
 
 pub use moved::Moved;
-pub use operate::Calculated;
 pub use run::{Pause, Vm, resume, start};

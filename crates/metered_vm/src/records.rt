@@ -1,18 +1,17 @@
 // Records of the heap that are made and saved.
 
-ghost use Rattle.std.specs.Prelude.{◌≡◌, ◌∷◌, [], Some, None, length, replicate, slice_get, IfOk};
+ghost use Rattle.std.specs.Prelude.{◌≡◌, ◌∷◌, [], Some, None, length, replicate, IfOk, OnOk};
 ghost use Rattle.std.specs.Option.{option_copied};
 ghost use Rattle.apex_meaning.specs.Expressions.{with_pairs, known as known_of, width as width_of};
 ghost use Rattle.apex_meaning.specs.Statements as spec;
-ghost use Rattle.stack_code.specs.Machine.{paired};
-ghost use Rattle.metered_vm.specs.Records.{named_thing};
+ghost use Rattle.stack_code.specs.Things.{paired};
 
 use apex_list::Items;
 use apex_num::{Cell, Id, NoMemory, copy_list};
 use apex_requests::SaveRow;
 use apex_schema::Object;
 use std::alloc::Global;
-use txn_heap::{Thing, Value};
+use txn_heap::{Change, Heap, Ref, Thing, Value};
 use typed_program::Saved;
 
 // ---- the records of a statement
@@ -37,7 +36,7 @@ fn places_in(alloc: Global, thing: Option<&Thing>) -> Result<Option<Items<usize>
 {
     match thing {
         Some(Thing::List(values)) => places_of(alloc, values.as_slice()),
-        Some(Thing::Record(_)) | None => Ok(None),
+        _ => Ok(None),
     }
 }
 
@@ -56,7 +55,7 @@ pub fn records_of(
     alloc: Global,
     saved: Saved,
     value: &Value,
-    heap: &[Thing],
+    heap: &Heap,
 ) -> Result<Option<(usize, Items<usize>)>, NoMemory>
     ensures { IfOk result (λ records. records ≡ spec.records_of saved value.now heap.now) }
 {
@@ -65,7 +64,7 @@ pub fn records_of(
     };
     match saved {
         Saved::One(object) => Ok(Some((object, one_place(alloc, thing.place)?))),
-        Saved::Many(object) => match places_in(alloc, heap.get(thing.place))? {
+        Saved::Many(object) => match places_in(alloc, heap.get(*thing))? {
             Some(places) => Ok(Some((object, places))),
             None => Ok(None),
         },
@@ -93,7 +92,7 @@ fn row_in(alloc: Global, place: usize, thing: Option<&Thing>) -> Result<SaveRow,
             id: id_in(record.cells.as_slice()),
             cells: copy_list(&record.cells)?,
         }),
-        Some(Thing::List(_)) | None => Ok(SaveRow {
+        _ => Ok(SaveRow {
             key: place,
             id: None,
             cells: Items::new(alloc),
@@ -101,60 +100,28 @@ fn row_in(alloc: Global, place: usize, thing: Option<&Thing>) -> Result<SaveRow,
     }
 }
 
-fn thing_at(heap: &[Thing], place: usize) -> Option<&Thing>
-    ensures { option_copied result ≡ slice_get heap.now place }
-{
-    heap.get(place)
-}
-
 /// What of the records at these places is saved.
-pub fn rows_in(alloc: Global, heap: &[Thing], places: &[usize]) -> Result<Items<SaveRow>, NoMemory>
+pub fn rows_in(alloc: Global, heap: &Heap, places: &[usize]) -> Result<Items<SaveRow>, NoMemory>
     ensures { IfOk result (λ rows. rows ≡ spec.rows_in heap.now places.now) }
 {
     let mut rows = Items::new(alloc);
     for place in places {
-        rows.push(row_in(alloc, *place, thing_at(heap, *place))?)?;
+        rows.push(row_in(alloc, *place, heap.get(Ref { place: *place }))?)?;
     }
     Ok(rows)
 }
 
-// A thing has an Id, where it is a record that has a place for it.
-fn name_thing(thing: &mut Thing, id: Id)
-    ensures { thing.new ≡ named_thing id thing.old }
+/// The records at these places have these Ids.
+pub fn set_ids(places: &[usize], ids: &[Id], heap: &mut Heap) -> Result<(), NoMemory>
+    ensures { OnOk result (heap.new ≡ spec.set_ids places.now ids.now heap.old) }
 {
-    match thing {
-        Thing::Record(record) => {
-            if !record.cells.is_empty() {
-                record.cells.set(0, Some(Cell::Id(id)));
-            }
-        }
-        Thing::List(_) => {}
-    }
-}
-
-// The thing at a place has an Id.
-fn set_id(heap: Vec<Thing>, place: usize, id: Id) -> Vec<Thing>
-    ensures { result.items ≡ spec.set_id id place (slice_get heap.items place) heap.items }
-{
-    let mut heap = heap;
-    if place < heap.len() {
-        name_thing(&mut heap[place], id);
-    }
-    heap
-}
-
-/// The things, with these Ids at the records at these places.
-pub fn set_ids(places: &[usize], ids: &[Id], heap: Items<Thing>) -> Items<Thing>
-    ensures { result ≡ spec.set_ids places.now ids.now heap }
-{
-    let mut heap = heap.into_vec();
     for i in 0..places.len() {
-        match ids.get(i) {
-            None => return Items::of(heap),
-            Some(id) => heap = set_id(heap, places[i], *id),
-        }
+        let Some(id) = ids.get(i) else {
+            return Ok(());
+        };
+        heap.change(Ref { place: places[i] }, Change::Know(0, Cell::Id(*id)))?;
     }
-    Items::of(heap)
+    Ok(())
 }
 
 // ---- new records

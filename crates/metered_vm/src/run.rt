@@ -11,20 +11,23 @@ ghost use Rattle.stack_code.specs.Machine as spec;
 ghost use Rattle.metered_vm.specs.Keeps.{Stands, KeepsOn};
 ghost use Rattle.metered_vm.specs.Runs.{IsStepTo, Ran, Pauses, Waits, told};
 
+use crate::ends::leave;
 use crate::moved::Moved;
 use crate::saving::{ask, count, save};
-use crate::step::{act, raise};
+use crate::step::act;
+use activations::Here;
 use apex_list::{Items, Stack};
-use apex_num::NoMemory;
+use apex_num::{Cell, NoMemory};
 use apex_requests::{Reply, Ticket};
 use apex_rows::{Answer, Question, Writes};
-use apex_schema::Schema;
+use apex_schema::{Mode as Access, Schema};
 use limit_meter::Meter;
 use save_meaning::TxnState;
 use save_procedure::given as save_given;
 use stack_code::{Config, Frame, Image, Mode, World};
 use std::alloc::Global;
 use std::mem::replace;
+use txn_heap::{Heap, Statics, Value};
 use txn_overlay::Journal;
 
 /// A request on its way: the machine that runs it, and how many steps it made, or 2^64 - 1 where there were more.
@@ -50,7 +53,12 @@ fn first_config(alloc: Global) -> Config
     Config {
         top: Frame {
             pc: 0,
-            locals: Items::new(alloc),
+            here: Here {
+                locals: Items::new(alloc),
+                this: Value::Plain(Cell::Null),
+                mode: Access::Sharing,
+                firing: 0,
+            },
             stack: Stack::new(alloc),
         },
         mode: Mode::Running,
@@ -60,7 +68,8 @@ fn first_config(alloc: Global) -> Config
                 minted: 0,
                 meter: Meter::new(),
             },
-            heap: Items::new(alloc),
+            heap: Heap::new(alloc),
+            statics: Statics::new(alloc),
             debug: Items::new(alloc),
         },
     }
@@ -123,7 +132,10 @@ fn step_once(
             let moved = act(alloc, image, schema, ticket, c)?;
             Ok(moved)
         }
-        Mode::Raising(thrown) => raise(alloc, thrown, c),
+        Mode::Raising(why) => {
+            let moved = leave(alloc, schema, ticket, why, c)?;
+            Ok(moved)
+        }
         Mode::Asking => ask(alloc, image, c),
         Mode::Counting(answer) => {
             let moved = count(alloc, image, answer, c)?;

@@ -1,23 +1,23 @@
 // Counts and saves that are on their way.
 
-ghost use Rattle.std.specs.Prelude.{◌≡◌, ◌≤◌, ◌<◌, ◌+◌, ◌^◌, length, slice_get, pos, Some, IfOk};
+ghost use Rattle.std.specs.Prelude.{◌≡◌, ◌≤◌, ◌<◌, ◌+◌, ◌^◌, length, slice_get, pos, Some, IfOk, OnOk};
 ghost use Rattle.save_meaning.specs.Counts.{count_of};
 ghost use Rattle.save_meaning.specs.Inserts.{rows_of_answer};
 ghost use Rattle.save_procedure.specs.Does.{IsSound, HasIds, IsPaid};
 ghost use Rattle.apex_meaning.specs.Statements.{set_ids as ids_set};
 ghost use Rattle.stack_code.specs.declared.code.Image.{Image as Code};
-ghost use Rattle.stack_code.specs.declared.code.Instr.TheVariants as I;
 ghost use Rattle.stack_code.specs.declared.code.Mode.TheVariants as M;
 ghost use Rattle.stack_code.specs.Checked.{CountsAt};
-ghost use Rattle.stack_code.specs.Machine as spec;
+ghost use Rattle.stack_code.specs.Next as spec;
+ghost use Rattle.stack_code.specs.Saves as saves;
 ghost use Rattle.metered_vm.specs.Keeps.{AsksRead, BehindSave};
 ghost use Rattle.metered_vm.specs.Steps.{IsStep, Stays};
 ghost use Rattle.metered_vm.specs.Runs.{IsStepTo};
 
-use crate::modes::{counting_at, set_mode};
+use crate::ends::limited;
+use crate::modes::{counting_at, raise, set_mode};
 use crate::moved::Moved;
 use crate::records::set_ids;
-use crate::step::limited;
 use apex_list::{Boxed, Items};
 use apex_num::{Cell, Id, LimitKind, NoMemory};
 use apex_requests::Ticket;
@@ -28,7 +28,6 @@ use save_meaning::SaveRun;
 use save_procedure::{Stopped, advance};
 use stack_code::{Config, Counting, Image, Mode};
 use std::alloc::Global;
-use std::mem::replace;
 use txn_heap::Value;
 use txn_overlay::Overlay;
 
@@ -62,7 +61,7 @@ fn count_rows(
 
 // It asks.
 fn ask_for(alloc: Global, counting: &Counting, c: &mut Config) -> Result<Moved, NoMemory>
-    ensures step { IfOk result (λ m. IsStep (spec.asking (Some (I.Count counting.now))) m c.new) }
+    ensures step { IfOk result (λ m. IsStep (saves.asking (Some counting.now)) m c.new) }
     ensures stays { IfOk result (λ m. Stays (spec.in_mode c.old M.Asking) m c.new) }
     ensures reads { IfOk result AsksRead }
 {
@@ -75,7 +74,7 @@ fn ask_for(alloc: Global, counting: &Counting, c: &mut Config) -> Result<Moved, 
 /// A COUNT() asks.
 pub fn ask(alloc: Global, image: &Image, c: &mut Config) -> Result<Moved, NoMemory>
     requires counts { CountsAt image.now c.old.top.pc c.old.top.stack }
-    ensures step { IfOk result (λ m. IsStep (spec.asking (slice_get image.now.body c.old.top.pc)) m c.new) }
+    ensures step { IfOk result (λ m. IsStep (saves.asking (saves.counted_by (slice_get image.now.body c.old.top.pc))) m c.new) }
     ensures stays { IfOk result (λ m. Stays (spec.in_mode c.old M.Asking) m c.new) }
     ensures reads { IfOk result AsksRead }
 {
@@ -94,7 +93,7 @@ fn count_found(
     c: &mut Config,
 ) -> Result<Moved, NoMemory>
     requires room { c.old.top.pc + 1 < 2 ^ 64 }
-    ensures { IfOk result (λ m. IsStep (spec.counting (Some (I.Count counting.now)) answer (spec.in_mode c.old (M.Counting answer))) m c.new) }
+    ensures { IfOk result (λ m. IsStep (saves.counting (Some counting.now) answer (spec.in_mode c.old (M.Counting answer))) m c.new) }
 {
     match c.world.txn.meter.charge(LimitKind::Rows, 1) {
         Err(limit) => Ok(limited(alloc, limit, c)),
@@ -118,7 +117,7 @@ pub fn count(
     c: &mut Config,
 ) -> Result<Moved, NoMemory>
     requires counts { CountsAt image.now c.old.top.pc c.old.top.stack }
-    ensures { IfOk result (λ m. IsStep (spec.counting (slice_get image.now.body c.old.top.pc) answer (spec.in_mode c.old (M.Counting answer))) m c.new) }
+    ensures { IfOk result (λ m. IsStep (saves.counting (saves.counted_by (slice_get image.now.body c.old.top.pc)) answer (spec.in_mode c.old (M.Counting answer))) m c.new) }
 {
     // (behind the place of an instruction there is room)
     let _end = image.body.len();
@@ -130,11 +129,10 @@ pub fn count(
 }
 
 // The records at these places have these Ids.
-fn name_records(alloc: Global, places: &[usize], ids: &[Id], c: &mut Config)
-    ensures { c.new ≡ spec.with_heap c.old (ids_set places.now ids.now c.old.world.heap) }
+fn name_records(places: &[usize], ids: &[Id], c: &mut Config) -> Result<(), NoMemory>
+    ensures { OnOk result (c.new ≡ spec.with_heap c.old (ids_set places.now ids.now c.old.world.heap)) }
 {
-    let heap = replace(&mut c.world.heap, Items::new(alloc));
-    c.world.heap = set_ids(places, ids, heap);
+    set_ids(places, ids, &mut c.world.heap)
 }
 
 /// Records are saved, up to the next question or the end of the save.
@@ -159,12 +157,12 @@ pub fn save(
             Ok(Moved::Asked(question))
         }
         Stopped::Saved(ids) => {
-            name_records(alloc, places.as_slice(), ids.as_slice(), c);
+            name_records(places.as_slice(), ids.as_slice(), c)?;
             set_mode(c, Mode::Running);
             Ok(Moved::Went)
         }
         Stopped::Threw(thrown) => {
-            set_mode(c, Mode::Raising(thrown));
+            raise(c, thrown);
             Ok(Moved::Went)
         }
         Stopped::Halted(limit) => Ok(limited(alloc, limit, c)),

@@ -13,7 +13,7 @@ use apex_schema::{Field, Schema};
 use builtin_table::text_length;
 use limit_meter::{Limit, Meter, most_of};
 use save_procedure::charge_items;
-use txn_heap::{Record, Thing, Value};
+use txn_heap::{Heap, Record, Ref, Thing, Value};
 
 // What is left of some room behind so many bytes; none where they are more.
 fn behind(left: usize, size: usize) -> Option<usize>
@@ -99,7 +99,7 @@ fn behind_record(schema: &Schema, known: &Record, left: usize) -> Option<usize>
 #[cycle(sizes)]
 fn behind_item(
     schema: &Schema,
-    heap: &[Thing],
+    heap: &Heap,
     most: usize,
     first: bool,
     item: &Value,
@@ -115,7 +115,7 @@ fn behind_item(
 #[cycle(sizes)]
 fn behind_items(
     schema: &Schema,
-    heap: &[Thing],
+    heap: &Heap,
     most: usize,
     items: &[Value],
     left: usize,
@@ -133,23 +133,17 @@ fn behind_items(
 
 // The thing at a place, where at most so many more lead to each other.
 #[cycle(sizes)]
-fn behind_thing(
-    schema: &Schema,
-    heap: &[Thing],
-    most: usize,
-    place: usize,
-    left: usize,
-) -> Option<usize>
-    ensures { Fits left (spec.thing_text (spec.text_within most schema.now heap.now) schema.now (slice_get heap.now place)) result }
+fn behind_thing(schema: &Schema, heap: &Heap, most: usize, on: Ref, left: usize) -> Option<usize>
+    ensures { Fits left (spec.thing_text (spec.text_within most schema.now heap.now) schema.now (slice_get heap.now on.place)) result }
 {
-    match heap.get(place) {
-        None => Some(left),
+    match heap.get(on) {
         Some(Thing::Record(record)) => behind_record(schema, record, left),
         Some(Thing::List(items)) => {
             // (two brackets)
             let left = behind(left, 2)?;
             behind_items(schema, heap, most, items.as_slice(), left)
         }
+        _ => Some(left),
     }
 }
 
@@ -157,7 +151,7 @@ fn behind_thing(
 #[cycle(sizes)]
 fn behind_value(
     schema: &Schema,
-    heap: &[Thing],
+    heap: &Heap,
     most: usize,
     value: &Value,
     left: usize,
@@ -168,7 +162,7 @@ fn behind_value(
         Value::Plain(cell) => behind_cell(cell, left),
         Value::Object(thing) => {
             if most > 0 {
-                behind_thing(schema, heap, most - 1, thing.place, left)
+                behind_thing(schema, heap, most - 1, *thing, left)
             } else {
                 Some(left)
             }
@@ -177,7 +171,7 @@ fn behind_value(
 }
 
 // How many bytes the text of a value has, where it has no more than so many, and one more than so many otherwise.
-fn size_within(schema: &Schema, heap: &[Thing], value: &Value, most: usize) -> usize
+fn size_within(schema: &Schema, heap: &Heap, value: &Value, most: usize) -> usize
     requires { most < 2 ^ 32 }
     ensures { result ≡ min (length (spec.text_of schema.now heap.now value.now)) (most + 1) }
 {
@@ -199,7 +193,7 @@ fn units_left(meter: &Meter) -> usize
 /// error names it and nothing changes. It takes no memory, and no more work than there are units left.
 pub fn charge_text(
     schema: &Schema,
-    heap: &[Thing],
+    heap: &Heap,
     value: &Value,
     meter: &mut Meter,
 ) -> Result<(), Limit>

@@ -9,7 +9,7 @@ use apex_num::{Cell, NoMemory, Text};
 use apex_schema::{Field, Object, Schema};
 use builtin_table::text_of as cell_text;
 use std::alloc::Global;
-use txn_heap::{Record, Thing, Value};
+use txn_heap::{Heap, Record, Ref, Thing, Value};
 
 // A comma in front of each but the first one.
 fn push_comma(first: bool, line: &mut String) -> Result<(), NoMemory>
@@ -100,7 +100,7 @@ fn push_record(
 fn push_items(
     alloc: Global,
     schema: &Schema,
-    heap: &[Thing],
+    heap: &Heap,
     most: usize,
     items: &[Value],
     line: &mut String,
@@ -121,21 +121,21 @@ fn push_items(
 fn push_thing(
     alloc: Global,
     schema: &Schema,
-    heap: &[Thing],
+    heap: &Heap,
     most: usize,
-    place: usize,
+    on: Ref,
     line: &mut String,
 ) -> Result<(), NoMemory>
-    ensures { OnOk result (string_bytes line.new ≡ string_bytes line.old ++ spec.thing_text (spec.text_within most schema.now heap.now) schema.now (slice_get heap.now place)) }
+    ensures { OnOk result (string_bytes line.new ≡ string_bytes line.old ++ spec.thing_text (spec.text_within most schema.now heap.now) schema.now (slice_get heap.now on.place)) }
 {
-    match heap.get(place) {
-        None => Ok(()),
+    match heap.get(on) {
         Some(Thing::Record(record)) => push_record(alloc, schema, record, line),
         Some(Thing::List(items)) => {
             line.push_str("(")?;
             push_items(alloc, schema, heap, most, items.as_slice(), line)?;
             line.push_str(")")
         }
+        _ => Ok(()),
     }
 }
 
@@ -144,7 +144,7 @@ fn push_thing(
 fn push_value(
     alloc: Global,
     schema: &Schema,
-    heap: &[Thing],
+    heap: &Heap,
     most: usize,
     value: &Value,
     line: &mut String,
@@ -155,7 +155,7 @@ fn push_value(
         Value::Plain(cell) => push_cell(alloc, cell, line),
         Value::Object(thing) => {
             if most > 0 {
-                push_thing(alloc, schema, heap, most - 1, thing.place, line)
+                push_thing(alloc, schema, heap, most - 1, *thing, line)
             } else {
                 Ok(())
             }
@@ -164,12 +164,7 @@ fn push_value(
 }
 
 /// The text of a value, as it is printed. A list in a list has its text there.
-pub fn text_of(
-    alloc: Global,
-    schema: &Schema,
-    heap: &[Thing],
-    value: &Value,
-) -> Result<Text, NoMemory>
+pub fn text_of(alloc: Global, schema: &Schema, heap: &Heap, value: &Value) -> Result<Text, NoMemory>
     ensures { IfOk result (λ text. text ≡ spec.text_of schema.now heap.now value.now) }
 {
     match value {

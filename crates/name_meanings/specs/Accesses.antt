@@ -140,11 +140,12 @@ abbrev pub field_value : List ClassMembers → Typed → Member → Bool → Typ
 field_value all receiver member sets = going_on receiver (field_kind all member) (role_of sets) (Part.Field member.class member.place)
 
 abbrev pub children_value : Typed → ℕ → ℕ → Typed
-children_value receiver child field = going_on receiver (K.Is (V.List (V.Record child))) R.Plain (Part.Children child field)
+children_value receiver child field = going_on receiver (K.Is (V.List (V.Record child))) R.Plain (Part.Children child field (is_relation receiver.role))
 
 abbrev pub variable_value : ℕ → TriggerVariable → ℕ → Typed
 variable_value at v object = plain at (K.Is (variable_type v object)) (T.TriggerVariable v)
 
+-- what stands behind a value whose type has a fault may be a variable; which one doesn't matter, since nothing runs
 abbrev pub reached : List ClassMembers → Typed → Access → Typed
 reached all receiver (A.Space space) = typed receiver.at K.Nothing (R.Space space) receiver.tree
 reached all receiver (A.Static member sets) = static_value all receiver.at member sets
@@ -153,7 +154,7 @@ reached all receiver (A.Field member sets) = field_value all receiver member set
 reached all receiver (A.Cell object n p sets) = going_on receiver (K.Is (V.Primitive p)) (role_of sets) (Part.Cell object n (is_relation receiver.role))
 reached all receiver (A.Parent object n to) = going_on receiver (K.Is (V.Record to)) R.Relation (Part.Parent object n (is_relation receiver.role))
 reached all receiver (A.Children child field) = children_value receiver child field
-reached all receiver A.Faulty = typed receiver.at K.Faulty R.Variable receiver.tree
+reached all receiver A.Faulty = going_on receiver K.Faulty R.Variable (Part.Field 0 0)
 
 abbrev pub member_of : Around → Typed → Word → Walk Typed
 member_of a receiver w = onward (access_of a receiver w) (λ access. Gives (reached a.members receiver access))

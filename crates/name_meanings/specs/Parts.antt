@@ -10,6 +10,7 @@ use Rattle.typed_program.specs.declared.expr.TypedNew.{TypedNew}
 use Rattle.typed_program.specs.declared.expr.TypedOperand.{TypedOperand}
 use Rattle.typed_program.specs.declared.expr.TypedPair.{TypedPair}
 use Rattle.typed_program.specs.declared.expr.TypedPart.{TypedPart}
+use Rattle.typed_program.specs.declared.expr.TypedPlace.{TypedPlace}
 
 abbrev pub first_part : TypedExpr → TypedPart → TypedExpr
 first_part head part = Postfix head (part ∷ [])
@@ -17,7 +18,7 @@ first_part head part = Postfix head (part ∷ [])
 abbrev pub next_part : TypedExpr → List TypedPart → TypedPart → TypedExpr
 next_part head parts part = Postfix head (parts ++ part ∷ [])
 
-abbrev pub grown : TypedExpr → TypedExpr-F TypedBind TypedExpr TypedNew TypedPart TypedItem TypedOperand TypedPair → TypedPart → TypedExpr
+abbrev pub grown : TypedExpr → TypedExpr-F TypedBind TypedExpr TypedNew TypedPart TypedPlace TypedItem TypedOperand TypedPair → TypedPart → TypedExpr
 grown tree (TypedExpr-F.Postfix head parts) part = next_part head parts part
 grown tree _ part = first_part tree part
 

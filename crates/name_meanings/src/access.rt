@@ -259,7 +259,7 @@ fn children_value(
     ensures { IfOk result (λ t. t ≡ spec.children_value receiver child field) }
 {
     let kind = ValueType::List(Boxed::new(alloc, ValueType::Record(child))?);
-    let part = TypedPart::Children(child, field);
+    let part = TypedPart::Children(child, field, is_relation(receiver.role));
     going_on(alloc, receiver, Kind::Is(kind), Role::Plain, part)
 }
 
@@ -320,12 +320,10 @@ fn reached(
             )
         }
         Access::Children(child, field) => children_value(alloc, receiver, child, field),
-        Access::Faulty => Ok(Typed {
-            at: receiver.at,
-            kind: Kind::Faulty,
-            role: Role::Variable,
-            tree: receiver.tree,
-        }),
+        Access::Faulty => {
+            let part = TypedPart::Field(0, 0);
+            going_on(alloc, receiver, Kind::Faulty, Role::Variable, part)
+        }
     }
 }
 

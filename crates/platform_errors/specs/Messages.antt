@@ -68,6 +68,7 @@ class Throws.InvalidDate = Class.Type
 class Throws.InvalidConversion = Class.Type
 class Throws.InvalidSavepoint = Class.Type
 class (Throws.Dml op row error) = Class.Dml
+class (Throws.Builtin kind text) = kind
 
 abbrev pub op_name : Op → List ℕ
 op_name Op'.Insert = codes "Insert"
@@ -105,3 +106,4 @@ message Throws.InvalidDate = message_of invalid_date
 message Throws.InvalidConversion = message_of invalid_conversion
 message Throws.InvalidSavepoint = codes "Invalid savepoint"
 message (Throws.Dml op row error) = failed op row error
+message (Throws.Builtin kind text) = text

@@ -53,6 +53,8 @@ pub enum Thrown {
     InvalidSavepoint,
     /// A statement, with the place of its first record that failed, and why.
     Dml(Op, i64, RecordError),
+    /// What a built-in method of a value throws: the class and the message.
+    Builtin(ExceptionClass, Text),
 }
 
 fn op_name(op: Op) -> &'static str
@@ -140,6 +142,7 @@ impl Thrown {
             | Thrown::InvalidConversion
             | Thrown::InvalidSavepoint => ExceptionClass::Type,
             Thrown::Dml(_, _, _) => ExceptionClass::Dml,
+            Thrown::Builtin(class, _) => *class,
         }
     }
 
@@ -177,6 +180,7 @@ impl Thrown {
             Thrown::InvalidConversion => Text::from_str(alloc, "Invalid conversion"),
             Thrown::InvalidSavepoint => Text::from_str(alloc, "Invalid savepoint"),
             Thrown::Dml(op, row, error) => failed(alloc, *op, *row, error),
+            Thrown::Builtin(_, message) => message.copy(),
         }
     }
 }

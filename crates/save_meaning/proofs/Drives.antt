@@ -20,8 +20,9 @@ use Rattle.record_ids.specs.Ids.{minted_id}
 use Rattle.txn_overlay.specs.Changes.{changed}
 use Rattle.txn_overlay.specs.Journals.{Layers, kept, undone, saved_again}
 use Rattle.save_meaning.specs.Sites.{Site}
-use Rattle.save_meaning.specs.Transactions as Save
-use Rattle.save_meaning.specs.Transactions.{Txn, Res, Gives, Stops, bind, Keeps, IsKept, charge_if, charge, ask, set_overlay}
+use Rattle.save_meaning.specs.Results as Result
+use Rattle.save_meaning.specs.Results.{Stop, Leaves, Closes, Res, Gives, Stops, bind, Holds}
+use Rattle.save_meaning.specs.Transactions.{Txn, Keeps, IsKept, charge_if, charge, answered, ask}
 use Rattle.save_meaning.specs.declared.draft.Draft.{Draft}
 use Rattle.save_meaning.specs.declared.draft.Draft.TheVariants.{Going, Wrong}
 use Rattle.save_meaning.specs.declared.draft.Reference.{Reference}
@@ -36,19 +37,7 @@ use Rattle.save_meaning.specs.declared.run.SaveRun.{SaveRun}
 use Rattle.save_meaning.specs.declared.run.TxnState.{TxnState}
 use Rattle.save_meaning.specs.Moves.{Move, Goes, Asks, Done, Throws, Halts, charged_if, charged, at, behind, found_in, begun, without_double, entered, settled, put_new, next_id, load, inside, find_by, find, write, with_object, within, move, given, first_run}
 use Rattle.save_meaning.specs.MoveLaws.{Alike}
-
--- what holds of the value, or of the stop
-abbrev pub Holds : {S A : Type 0} → (A → S → Type 0) → (Save.Stop → S → Type 0) → Res S A → Type 0
-Holds ok end (Gives a s) = ok a s
-Holds ok end (Stops why s) = end why s
-
-bound : {S A B : Type 0} (ok : B → S → Type 0) (end : Save.Stop → S → Type 0) (res : Res S A) (go : A → S → Res S B) → Holds ok end (bind res go) → Holds (λ a s. Holds ok end (go a s)) end res
-bound ok end (Gives a s) go h = h
-bound ok end (Stops why s) go h = h
-
-weaken : {S A : Type 0} (ok good : A → S → Type 0) (end : Save.Stop → S → Type 0) (res : Res S A) → ((a : A) (s : S) → ok a s → good a s) → Holds ok end res → Holds good end res
-weaken ok good end (Gives a s) f h = f a s h
-weaken ok good end (Stops why s) f h = h
+use Rattle.save_meaning.proofs.Holding.{bound, weaken}
 
 -- a charge more on both sides
 alike_charged : (saved : List Overlay) (w : TxnState) (t : Txn) (k : LimitKind) (n : ℕ) → Alike saved w t →
@@ -77,23 +66,25 @@ found_in_more (f ∷ fs) ref rows more = ap (λ ps. (f.reference, f.rows) ∷ ps
 
 module _ {S : Type 0} (keeps : Keeps S) (keeping : IsKept keeps) (site : Site) where
   -- what is said of a save on its way, and of its end, is passed back from each move to the one before
-  pub record Drives (Runs : SaveRun → TxnState → S → Type 0) (ok : List (List ℕ) → TxnState → S → Type 0) (end : Save.Stop → TxnState → S → Type 0) : Type 0 where
+  pub record Drives (Runs : SaveRun → TxnState → S → Type 0) (ok : List (List ℕ) → TxnState → S → Type 0) (end : Stop Thrown → TxnState → S → Type 0) : Type 0 where
     pub goes : (run next : SaveRun) (w v : TxnState) (s : S) (t : Txn) → move site run w ≡ Goes next v → t.tape ≡ (keeps.txn s).tape → Runs next v (keeps.with_txn t s) → Runs run w s
     pub asks : (run : SaveRun) (w : TxnState) (s : S) (q : Question) (a : Answer) (more : List Answer) (t : Txn) → move site run w ≡ Asks q → (keeps.txn s).tape ≡ a ∷ more → t.tape ≡ more → Runs (given run a) w (keeps.with_txn t s) → Runs run w s
-    pub needs : (run : SaveRun) (w : TxnState) (s : S) (q : Question) → move site run w ≡ Asks q → (keeps.txn s).tape ≡ [] → end (Save.Needs q) w s → Runs run w s
+    pub needs : (run : SaveRun) (w : TxnState) (s : S) (q : Question) → move site run w ≡ Asks q → (keeps.txn s).tape ≡ [] → end (Closes (Result.Needs q)) w s → Runs run w s
     pub ends : (run : SaveRun) (w v : TxnState) (s : S) (ids : List (List ℕ)) (t : Txn) → move site run w ≡ Done ids v → t.tape ≡ (keeps.txn s).tape → ok ids v (keeps.with_txn t s) → Runs run w s
-    pub throws : (run : SaveRun) (w v : TxnState) (s : S) (why : Thrown) (t : Txn) → move site run w ≡ Throws why v → t.tape ≡ (keeps.txn s).tape → end (Save.Throws why) v (keeps.with_txn t s) → Runs run w s
-    pub halts : (run : SaveRun) (w : TxnState) (s : S) (k : LimitKind) (n : ℕ) → move site run w ≡ Halts k n w → end (Save.Halts k n) w s → Runs run w s
+    pub throws : (run : SaveRun) (w v : TxnState) (s : S) (why : Thrown) (t : Txn) → move site run w ≡ Throws why v → t.tape ≡ (keeps.txn s).tape → end (Leaves why) v (keeps.with_txn t s) → Runs run w s
+    pub halts : (run : SaveRun) (w : TxnState) (s : S) (k : LimitKind) (n : ℕ) → move site run w ≡ Halts k n w → end (Closes (Result.Halts k n)) w s → Runs run w s
 
-  module _ (Runs : SaveRun → TxnState → S → Type 0) (ok : List (List ℕ) → TxnState → S → Type 0) (end : Save.Stop → TxnState → S → Type 0) (d : Drives Runs ok end) (outer : List Overlay) where
+  module _ (Runs : SaveRun → TxnState → S → Type 0) (ok : List (List ℕ) → TxnState → S → Type 0) (end : Stop Thrown → TxnState → S → Type 0) (d : Drives Runs ok end) (outer : List Overlay) where
     -- the save goes on from here, with these overlays to go back to
     abbrev Next : List Overlay → SaveRun → S → Type 0
     Next saved run s = (w : TxnState) → Alike saved w (keeps.txn s) → Runs run w s
 
-    abbrev pub Ended : Save.Stop → S → Type 0
-    Ended (Save.Halts k n) s = (saved : List Overlay) (w : TxnState) → Alike saved w (keeps.txn s) → end (Save.Halts k n) w s
-    Ended (Save.Needs q) s = (saved : List Overlay) (w : TxnState) → Alike saved w (keeps.txn s) → end (Save.Needs q) w s
-    Ended (Save.Throws t) s = (w : TxnState) → Alike outer w (keeps.txn s) → end (Save.Throws t) w s
+    abbrev pub Ended : Stop Thrown → S → Type 0
+    Ended (Closes (Result.Halts k n)) s = (saved : List Overlay) (w : TxnState) → Alike saved w (keeps.txn s) → end (Closes (Result.Halts k n)) w s
+    Ended (Closes (Result.Needs q)) s = (saved : List Overlay) (w : TxnState) → Alike saved w (keeps.txn s) → end (Closes (Result.Needs q)) w s
+    Ended (Closes Result.Unfinished) s = Unit {0}
+    Ended (Closes Result.Unbuilt) s = Unit {0}
+    Ended (Leaves t) s = (w : TxnState) → Alike outer w (keeps.txn s) → end (Leaves t) w s
 
     abbrev pub Finished : List (List ℕ) → S → Type 0
     Finished ids s = (w : TxnState) → Alike outer w (keeps.txn s) → ok ids w s
@@ -129,7 +120,7 @@ module _ {S : Type 0} (keeps : Keeps S) (keeping : IsKept keeps) (site : Site) w
         ((w : TxnState) → Alike saved w (keeps.txn s) → move site run w ≡ Asks q) →
         Holds (λ a s1. Next saved (given run a) s1) Ended (ask keeps q s) → Next saved run s
     ask_next saved q run s is post w a = by (keeps.txn s).tape refl post where
-      by : (tape : List Answer) → (keeps.txn s).tape ≡ tape → Holds (λ b s1. Next saved (given run b) s1) Ended (Save.answered keeps q tape s) → Runs run w s
+      by : (tape : List Answer) → (keeps.txn s).tape ≡ tape → Holds (λ b s1. Next saved (given run b) s1) Ended (answered keeps q tape s) → Runs run w s
       by [] e h = d.needs run w s q (is w a) e (h saved w a)
       by (b ∷ more) e h =
           d.asks run w s q b more (record (keeps.txn s) { tape = more }) (is w a) e refl (h w (subst (λ t. Alike saved w t) (sym (keeping.same _ s)) (record { overlay = a.overlay; minted = a.minted; counts = a.counts; eight = a.eight })))
@@ -145,7 +136,7 @@ module _ {S : Type 0} (keeps : Keeps S) (keeping : IsKept keeps) (site : Site) w
 
       module _ (r : SaveRun) (same : r.object ≡ object) (saved : List Overlay) where
         -- on to a phase, or past it
-        enter_at : (phase : Phase) (does : List Draft → S → Res S (List Draft)) (ds : List Draft) (s : S) →
+        enter_at : (phase : Phase) (does : List Draft → S → Res S Thrown (List Draft)) (ds : List Draft) (s : S) →
             ((es : List Draft) (s1 : S) → Holds (λ fs s2. Next saved (at r (behind phase fs)) s2) Ended (does es s1) → Next saved (at r (St.Inside phase es)) s1) →
             Holds (λ es s1. Next saved (at r (behind phase es)) s1) Ended (Inserts.enter keeps site does ds s) →
             Next saved (at r (St.Enter phase ds)) s
@@ -187,7 +178,7 @@ module _ {S : Type 0} (keeps : Keeps S) (keeping : IsKept keeps) (site : Site) w
               with : List Row → List Finding
               with rows = found ++ record { reference = ref; rows = rows } ∷ []
 
-              rest : List Row → S → Res S (List (Reference × List Row))
+              rest : List Row → S → Res S Thrown (List (Reference × List Row))
               rest rows s1 = bind (Inserts.found_all keeps site refs (going ds) s1) (λ more s2. Gives ((ref, rows) ∷ more) s2)
 
               -- the rows of this reference are there
@@ -269,7 +260,7 @@ module _ {S : Type 0} (keeps : Keeps S) (keeping : IsKept keeps) (site : Site) w
           t2 : Txn
           t2 = record (keeps.txn s1) { overlay = changed id (Now (written id row)) (keeps.txn s1).overlay; minted = (keeps.txn s1).minted + 1 }
 
-          rest : List ℕ → S → Res S (List Draft)
+          rest : List ℕ → S → Res S Thrown (List Draft)
           rest i s2 = bind (Inserts.write keeps site o ds s2) (λ more s3. Gives (Going (written i row) ∷ more) s3)
 
           later : Holds (Written before) Ended (rest id (keeps.with_txn t2 s1)) → Next saved (at r (St.Write (before ++ Going (written id row) ∷ []) ds)) (keeps.with_txn t2 s1)
@@ -341,7 +332,7 @@ module _ {S : Type 0} (keeps : Keeps S) (keeping : IsKept keeps) (site : Site) w
 
       module _ (start : Overlay) where
         -- the chunk is over
-        settle_at : (rest : List SaveRow) (place : ℕ) (ids : List (List ℕ)) (ds : List Draft) (s : S) (later : S → Res S (List (List ℕ))) →
+        settle_at : (rest : List SaveRow) (place : ℕ) (ids : List (List ℕ)) (ds : List Draft) (s : S) (later : S → Res S Thrown (List (List ℕ))) →
             ((s1 : S) → Holds (λ more s2. Finished ((ids ++ ids_of (going ds)) ++ more) s2) Ended (later s1) → Next (start ∷ outer) (saves rest (place + chunk_most) (ids ++ ids_of (going ds))) s1) →
             Holds (λ more s1. Finished (ids ++ more) s1) Ended (Inserts.settle keeps site (first_wrong place ds) start ds later s) →
             Next (start ∷ outer) (at (saves rest place ids) (St.Settle ds)) s
@@ -381,7 +372,7 @@ module _ {S : Type 0} (keeps : Keeps S) (keeping : IsKept keeps) (site : Site) w
               first : SaveRun
               first = at (saves rest place ids) (St.Enter P.Refer (loaded site.ticket.user object o chunk))
 
-              phases : List Draft → S → Res S (List Draft)
+              phases : List Draft → S → Res S Thrown (List Draft)
               phases ds s1 =
                   bind (Inserts.enter keeps site (Inserts.refer keeps site o) ds s1) (λ d2 s2.
                   bind (Inserts.enter keeps site (Inserts.nothing keeps site) d2 s2) (λ d3 s3.
@@ -390,14 +381,14 @@ module _ {S : Type 0} (keeps : Keeps S) (keeping : IsKept keeps) (site : Site) w
                   bind (Inserts.enter keeps site (Inserts.nothing keeps site) d5 s5) (λ d6 s6.
                   Inserts.enter keeps site (Inserts.nothing keeps site) d6 s6)))))
 
-              later : S → Res S (List (List ℕ))
+              later : S → Res S Thrown (List (List ℕ))
               later s1 = Inserts.chunks_from keeps site n (place + chunk_most) object o start rest s1
 
               whole : List Draft → S → Type 0
               whole ds s1 = Holds (λ more s2. Finished (ids ++ more) s2) Ended (Inserts.settle keeps site (first_wrong place ds) start ds later s1)
 
               -- loading is its charge
-              charge_first : (c : Res S (Unit {0})) → Holds whole Ended (bind (bind c (λ u s1. Gives (loaded site.ticket.user object o chunk) s1)) phases) → Holds whole Ended (bind c (λ u s1. phases (loaded site.ticket.user object o chunk) s1))
+              charge_first : (c : Res S Thrown (Unit {0})) → Holds whole Ended (bind (bind c (λ u s1. Gives (loaded site.ticket.user object o chunk) s1)) phases) → Holds whole Ended (bind c (λ u s1. phases (loaded site.ticket.user object o chunk) s1))
               charge_first (Gives u s1) h = h
               charge_first (Stops why s1) h = h
 
@@ -439,9 +430,9 @@ module _ {S : Type 0} (keeps : Keeps S) (keeping : IsKept keeps) (site : Site) w
           Alike outer v (keeps.txn z) →
           Holds Whole Ended (Inserts.without_double keeps site double again (Inserts.of_object keeps site there object rows) z) → Runs counting w s
       looks_at true again there w v s z t found is tape e a post =
-          d.throws counting w v s Throw.DuplicateRecord t e tape (subst (λ y. end (Save.Throws Throw.DuplicateRecord) v y) is (post v a))
+          d.throws counting w v s Throw.DuplicateRecord t e tape (subst (λ y. end (Leaves Throw.DuplicateRecord) v y) is (post v a))
       looks_at false (Some id) there w v s z t found is tape e a post =
-          d.throws counting w v s (Throw.DuplicateId id) t e tape (subst (λ y. end (Save.Throws (Throw.DuplicateId id)) v y) is (post v a))
+          d.throws counting w v s (Throw.DuplicateId id) t e tape (subst (λ y. end (Leaves (Throw.DuplicateId id)) v y) is (post v a))
       looks_at false None None w v s z t found is tape e a post = d.ends counting w v s [] t e tape (subst (λ y. ok [] v y) is (post v a))
       looks_at false None (Some o) w v s z t found is tape e a post =
           d.goes counting (at counting St.Load) w (record v { overlay = saved_again v.overlay }) s t e tape

@@ -13,7 +13,8 @@ use Rattle.apex_requests.specs.declared.request.SaveRow.{SaveRow}
 use Rattle.apex_rows.specs.declared.row.Row.{Row}
 use Rattle.row_meaning.specs.Overlays.{Overlay}
 use Rattle.save_meaning.specs.Sites.{Site}
-use Rattle.save_meaning.specs.Transactions.{Halts, Needs, Throws, Res, Gives, Stops, bind, Keeps, IsKept, charge_if, charge, answered, ask}
+use Rattle.save_meaning.specs.Results.{Leaves, Closes, Res, Gives, Stops, bind}
+use Rattle.save_meaning.specs.Transactions.{Keeps, IsKept, charge_if, charge, answered, ask}
 use Rattle.save_meaning.specs.declared.draft.Draft.{Draft}
 use Rattle.save_meaning.specs.declared.draft.Draft.TheVariants.{Going, Wrong}
 use Rattle.save_meaning.specs.declared.draft.Reference.{Reference}
@@ -22,17 +23,15 @@ use Rattle.save_meaning.specs.Inserts
 
 module _ {S : Type 0} (keeps : Keeps S) (kept : IsKept keeps) where
   -- nothing is thrown
-  abbrev pub Calm : {A : Type 0} → Res S A → Type 0
+  abbrev pub Calm : {A : Type 0} → Res S Thrown A → Type 0
   Calm (Gives a s) = Unit {0}
-  Calm (Stops (Halts k n) s) = Unit {0}
-  Calm (Stops (Needs q) s) = Unit {0}
-  Calm (Stops (Throws t) s) = ⊥
+  Calm (Stops (Closes end) s) = Unit {0}
+  Calm (Stops (Leaves t) s) = ⊥
 
-  calm_bind : {A B : Type 0} (r : Res S A) (go : A → S → Res S B) → Calm r → ((a : A) (s : S) → Calm (go a s)) → Calm (bind r go)
+  calm_bind : {A B : Type 0} (r : Res S Thrown A) (go : A → S → Res S Thrown B) → Calm r → ((a : A) (s : S) → Calm (go a s)) → Calm (bind r go)
   calm_bind (Gives a s) go h more = more a s
-  calm_bind (Stops (Halts k n) s) go h more = tt
-  calm_bind (Stops (Needs q) s) go h more = tt
-  calm_bind (Stops (Throws why) s) go h more = absurd h
+  calm_bind (Stops (Closes end) s) go h more = tt
+  calm_bind (Stops (Leaves why) s) go h more = absurd h
 
   calm_charge : (k : LimitKind) (n : ℕ) (s : S) → Calm (charge keeps k n s)
   calm_charge k n s = by (fits k n (keeps.txn s).charges) where
@@ -47,29 +46,26 @@ module _ {S : Type 0} (keeps : Keeps S) (kept : IsKept keeps) where
     by (a ∷ more) = tt
 
   -- what is thrown leaves this overlay
-  abbrev pub Leaves : {A : Type 0} → Overlay → Res S A → Type 0
-  Leaves v (Gives a s) = Unit {0}
-  Leaves v (Stops (Halts k n) s) = Unit {0}
-  Leaves v (Stops (Needs q) s) = Unit {0}
-  Leaves v (Stops (Throws t) s) = (keeps.txn s).overlay ≡ v
+  abbrev pub Spares : {A : Type 0} → Overlay → Res S Thrown A → Type 0
+  Spares v (Gives a s) = Unit {0}
+  Spares v (Stops (Closes end) s) = Unit {0}
+  Spares v (Stops (Leaves t) s) = (keeps.txn s).overlay ≡ v
 
-  calm_then : {A B : Type 0} (v : Overlay) (r : Res S A) (go : A → S → Res S B) → Calm r → ((a : A) (s : S) → Leaves v (go a s)) → Leaves v (bind r go)
+  calm_then : {A B : Type 0} (v : Overlay) (r : Res S Thrown A) (go : A → S → Res S Thrown B) → Calm r → ((a : A) (s : S) → Spares v (go a s)) → Spares v (bind r go)
   calm_then v (Gives a s) go h more = more a s
-  calm_then v (Stops (Halts k n) s) go h more = tt
-  calm_then v (Stops (Needs q) s) go h more = tt
-  calm_then v (Stops (Throws why) s) go h more = absurd h
+  calm_then v (Stops (Closes end) s) go h more = tt
+  calm_then v (Stops (Leaves why) s) go h more = absurd h
 
-  leaves_then : {A B : Type 0} (v : Overlay) (r : Res S A) (go : A → S → Res S B) → Leaves v r → ((a : A) (s : S) → Leaves v (go a s)) → Leaves v (bind r go)
-  leaves_then v (Gives a s) go h more = more a s
-  leaves_then v (Stops (Halts k n) s) go h more = tt
-  leaves_then v (Stops (Needs q) s) go h more = tt
-  leaves_then v (Stops (Throws t) s) go h more = h
+  spares_then : {A B : Type 0} (v : Overlay) (r : Res S Thrown A) (go : A → S → Res S Thrown B) → Spares v r → ((a : A) (s : S) → Spares v (go a s)) → Spares v (bind r go)
+  spares_then v (Gives a s) go h more = more a s
+  spares_then v (Stops (Closes end) s) go h more = tt
+  spares_then v (Stops (Leaves t) s) go h more = h
 
   -- a charge leaves the overlay, too
-  charge_then : {B : Type 0} (v : Overlay) (k : LimitKind) (n : ℕ) (s : S) (go : Unit {0} → S → Res S B) → (keeps.txn s).overlay ≡ v →
-      ((u : Unit {0}) (s1 : S) → (keeps.txn s1).overlay ≡ v → Leaves v (go u s1)) → Leaves v (bind (charge keeps k n s) go)
+  charge_then : {B : Type 0} (v : Overlay) (k : LimitKind) (n : ℕ) (s : S) (go : Unit {0} → S → Res S Thrown B) → (keeps.txn s).overlay ≡ v →
+      ((u : Unit {0}) (s1 : S) → (keeps.txn s1).overlay ≡ v → Spares v (go u s1)) → Spares v (bind (charge keeps k n s) go)
   charge_then v k n s go e more = by (fits k n (keeps.txn s).charges) where
-    by : (b : Bool) → Leaves v (bind (charge_if keeps b k n s) go)
+    by : (b : Bool) → Spares v (bind (charge_if keeps b k n s) go)
     by true = more tt _ (ap (λ t. t.overlay) (kept.same _ s) ∙ e)
     by false = tt
 
@@ -77,7 +73,7 @@ module _ {S : Type 0} (keeps : Keeps S) (kept : IsKept keeps) where
     calm_load : (object : ℕ) (o : Object) (rows : List SaveRow) (s : S) → Calm (Inserts.load keeps site object o rows s)
     calm_load object o rows s = calm_bind (charge keeps Steps (length rows) s) _ (calm_charge Steps (length rows) s) (λ u s1. tt)
 
-    calm_enter : (phase : List Draft → S → Res S (List Draft)) → ((ds : List Draft) (s : S) → Calm (phase ds s)) → (ds : List Draft) (s : S) →
+    calm_enter : (phase : List Draft → S → Res S Thrown (List Draft)) → ((ds : List Draft) (s : S) → Calm (phase ds s)) → (ds : List Draft) (s : S) →
         Calm (Inserts.enter keeps site phase ds s)
     calm_enter phase calm ds s = by (going ds) where
       by : (rows : List Row) → Calm (Inserts.entered keeps site rows ds phase s)
@@ -116,37 +112,37 @@ module _ {S : Type 0} (keeps : Keeps S) (kept : IsKept keeps) where
         calm_bind (Inserts.enter keeps site (Inserts.nothing keeps site) d5 s5) _ (calm_enter _ (λ ds s. tt) d5 s5) (λ d6 s6.
         calm_enter _ (λ ds s. tt) d6 s6))))))
 
-    leaves_settle : (w : Option (ℕ × RecordError)) (v : Overlay) (ds : List Draft) (later : S → Res S (List (List ℕ))) (s : S) → ((s1 : S) → Leaves v (later s1)) →
-        Leaves v (Inserts.settle keeps site w v ds later s)
-    leaves_settle (Some w) v ds later s h = ap (λ t. t.overlay) (kept.same _ s)
-    leaves_settle None v ds later s h = leaves_then v (later s) _ (h s) (λ ids s1. tt)
+    spares_settle : (w : Option (ℕ × RecordError)) (v : Overlay) (ds : List Draft) (later : S → Res S Thrown (List (List ℕ))) (s : S) → ((s1 : S) → Spares v (later s1)) →
+        Spares v (Inserts.settle keeps site w v ds later s)
+    spares_settle (Some w) v ds later s h = ap (λ t. t.overlay) (kept.same _ s)
+    spares_settle None v ds later s h = spares_then v (later s) _ (h s) (λ ids s1. tt)
 
-    leaves_chunks : (n place object : ℕ) (o : Object) (v : Overlay) (rows : List SaveRow) (s : S) → Leaves v (Inserts.chunks_from keeps site n place object o v rows s)
-    leaves_chunks zero place object o v [] s = tt
-    leaves_chunks zero place object o v (r ∷ rs) s = tt
-    leaves_chunks (suc n) place object o v [] s = tt
-    leaves_chunks (suc n) place object o v (r ∷ rs) s =
+    spares_chunks : (n place object : ℕ) (o : Object) (v : Overlay) (rows : List SaveRow) (s : S) → Spares v (Inserts.chunks_from keeps site n place object o v rows s)
+    spares_chunks zero place object o v [] s = tt
+    spares_chunks zero place object o v (r ∷ rs) s = tt
+    spares_chunks (suc n) place object o v [] s = tt
+    spares_chunks (suc n) place object o v (r ∷ rs) s =
         calm_then v (Inserts.save_chunk keeps site object o (take Inserts.chunk_most (r ∷ rs)) s) _ (calm_chunk object o (take Inserts.chunk_most (r ∷ rs)) s)
-        (λ ds s1. leaves_settle (first_wrong place ds) v ds (Inserts.chunks_from keeps site n (place + Inserts.chunk_most) object o v (drop Inserts.chunk_most (r ∷ rs))) s1 (λ s2. leaves_chunks n (place + Inserts.chunk_most) object o v (drop Inserts.chunk_most (r ∷ rs)) s2))
+        (λ ds s1. spares_settle (first_wrong place ds) v ds (Inserts.chunks_from keeps site n (place + Inserts.chunk_most) object o v (drop Inserts.chunk_most (r ∷ rs))) s1 (λ s2. spares_chunks n (place + Inserts.chunk_most) object o v (drop Inserts.chunk_most (r ∷ rs)) s2))
 
-    leaves_object : (o : Option Object) (object : ℕ) (rows : List SaveRow) (v : Overlay) (s : S) → (keeps.txn s).overlay ≡ v → Leaves v (Inserts.of_object keeps site o object rows s)
-    leaves_object None object rows v s e = tt
-    leaves_object (Some o) object rows v s e =
-        subst (λ start. Leaves v (Inserts.chunks_from keeps site (length rows) 0 object o start rows s)) (sym e) (leaves_chunks (length rows) 0 object o v rows s)
+    spares_object : (o : Option Object) (object : ℕ) (rows : List SaveRow) (v : Overlay) (s : S) → (keeps.txn s).overlay ≡ v → Spares v (Inserts.of_object keeps site o object rows s)
+    spares_object None object rows v s e = tt
+    spares_object (Some o) object rows v s e =
+        subst (λ start. Spares v (Inserts.chunks_from keeps site (length rows) 0 object o start rows s)) (sym e) (spares_chunks (length rows) 0 object o v rows s)
 
-    leaves_double : (b : Bool) (again : Option (List ℕ)) (go : S → Res S (List (List ℕ))) (v : Overlay) (s : S) → (keeps.txn s).overlay ≡ v → Leaves v (go s) →
-        Leaves v (Inserts.without_double keeps site b again go s)
-    leaves_double true again go v s e h = e
-    leaves_double false (Some id) go v s e h = e
-    leaves_double false None go v s e h = h
+    spares_double : (b : Bool) (again : Option (List ℕ)) (go : S → Res S Thrown (List (List ℕ))) (v : Overlay) (s : S) → (keeps.txn s).overlay ≡ v → Spares v (go s) →
+        Spares v (Inserts.without_double keeps site b again go s)
+    spares_double true again go v s e h = e
+    spares_double false (Some id) go v s e h = e
+    spares_double false None go v s e h = h
 
-    pub leaves_insert : (object : ℕ) (rows : List SaveRow) (s : S) → Leaves (keeps.txn s).overlay (Inserts.insert keeps site object rows s)
-    leaves_insert object rows s =
+    pub spares_insert : (object : ℕ) (rows : List SaveRow) (s : S) → Spares (keeps.txn s).overlay (Inserts.insert keeps site object rows s)
+    spares_insert object rows s =
         charge_then (keeps.txn s).overlay Dml 1 s _ refl (λ u s1 e.
         charge_then (keeps.txn s).overlay Saved (length rows) s1 _ e (λ w s2 f.
-        leaves_double (Inserts.is_double (map (λ (r : SaveRow). r.key) rows)) (Inserts.first_again [] (map (λ (r : SaveRow). r.id) rows))
-        (Inserts.of_object keeps site (slice_get site.schema.objects object) object rows) (keeps.txn s).overlay s2 f (leaves_object (slice_get site.schema.objects object) object rows (keeps.txn s).overlay s2 f)))
+        spares_double (Inserts.is_double (map (λ (r : SaveRow). r.key) rows)) (Inserts.first_again [] (map (λ (r : SaveRow). r.id) rows))
+        (Inserts.of_object keeps site (slice_get site.schema.objects object) object rows) (keeps.txn s).overlay s2 f (spares_object (slice_get site.schema.objects object) object rows (keeps.txn s).overlay s2 f)))
 
-    pub failed_insert : (object : ℕ) (rows : List SaveRow) (s later : S) (why : Thrown) → Inserts.insert keeps site object rows s ≡ Stops (Throws why) later →
+    pub failed_insert : (object : ℕ) (rows : List SaveRow) (s later : S) (why : Thrown) → Inserts.insert keeps site object rows s ≡ Stops (Leaves why) later →
         (keeps.txn later).overlay ≡ (keeps.txn s).overlay
-    failed_insert object rows s later why e = subst (Leaves (keeps.txn s).overlay) e (leaves_insert object rows s)
+    failed_insert object rows s later why e = subst (Spares (keeps.txn s).overlay) e (spares_insert object rows s)

@@ -1,3 +1,4 @@
+pub mod Holding
 pub mod Failing
 pub mod Samples
 pub mod Counting

@@ -5,6 +5,7 @@ use Rattle.apex_num.specs.declared.cell.Cell.{Cell}
 use Rattle.apex_num.specs.declared.cell.Cell.TheVariants.{Null, Bool as Truth, Num, Text, Id}
 use Rattle.limit_meter.specs.Charges.{counter}
 use Rattle.platform_errors.specs.declared.record.RecordError.TheVariants as Error
+use Rattle.platform_errors.specs.declared.thrown.Thrown.{Thrown}
 use Rattle.platform_errors.specs.declared.thrown.Thrown.TheVariants as Throw
 use Rattle.apex_schema.specs.declared.schema.Access.TheVariants.{Edit}
 use Rattle.apex_schema.specs.declared.schema.FieldKind.TheVariants as Kind
@@ -25,7 +26,8 @@ use Rattle.apex_rows.specs.declared.row.Row.{Row}
 use Rattle.row_meaning.specs.Overlays.{Overlay, Now}
 use Rattle.row_meaning.specs.Users.{user_id}
 use Rattle.save_meaning.specs.Sites.{Site}
-use Rattle.save_meaning.specs.Transactions.{Txn, Stop, Needs, Throws, Res, Gives, Stops}
+use Rattle.save_meaning.specs.Results.{Needs, Stop, Leaves, Closes, Res, Gives, Stops}
+use Rattle.save_meaning.specs.Transactions.{Txn}
 use Rattle.save_meaning.specs.Drafts.{by_ids, is_bad_level, kept_cell}
 use Rattle.save_meaning.specs.Inserts.{insert}
 use Rattle.save_meaning.specs.Counts.{count}
@@ -73,19 +75,19 @@ abbrev sized : ℕ → Cell → SaveRow
 sized key size = record { key = key; id = None; cells = None ∷ None ∷ Some size ∷ None ∷ [] }
 
 -- the counters: statements, rows of statements, steps, units
-abbrev counts : {A : Type 0} → Res Txn A → List ℕ
+abbrev counts : {A : Type 0} → Res Txn Thrown A → List ℕ
 counts (Gives a t) = counter Dml t.charges ∷ counter Saved t.charges ∷ counter Steps t.charges ∷ counter Alloc t.charges ∷ []
 counts (Stops why t) = counter Dml t.charges ∷ counter Saved t.charges ∷ counter Steps t.charges ∷ counter Alloc t.charges ∷ []
 
-abbrev ids : Res Txn (List (List ℕ)) → List (List ℕ)
+abbrev ids : Res Txn Thrown (List (List ℕ)) → List (List ℕ)
 ids (Gives is t) = is
 ids (Stops why t) = []
 
-abbrev changes : {A : Type 0} → Res Txn A → Overlay
+abbrev changes : {A : Type 0} → Res Txn Thrown A → Overlay
 changes (Gives a t) = t.overlay
 changes (Stops why t) = t.overlay
 
-abbrev saved : SaveRow → Res Txn (List (List ℕ))
+abbrev saved : SaveRow → Res Txn Thrown (List (List ℕ))
 saved r = insert alone here 0 (r ∷ []) fresh
 
 -- one record takes a step in each of seven phases
@@ -106,15 +108,15 @@ one_row = refl
 lacking : counts (saved (sized 0 Null)) ≡ 1 ∷ 1 ∷ 4 ∷ 0 ∷ []
 lacking = refl
 
-abbrev thrown : {A : Type 0} → Res Txn A → Option Stop
+abbrev thrown : {A : Type 0} → Res Txn Thrown A → Option (Stop Thrown)
 thrown (Gives a t) = None
 thrown (Stops why t) = Some why
 
-lacks_size : thrown (saved (sized 0 Null)) ≡ Some (Throws (Throw.Dml Op.Insert (pos 0) (Error.Required (codes "Size"))))
+lacks_size : thrown (saved (sized 0 Null)) ≡ Some (Leaves (Throw.Dml Op.Insert (pos 0) (Error.Required (codes "Size"))))
 lacks_size = refl
 
 -- the second record fails, the first one has no row
-second_fails : thrown (insert alone here 0 (sized 0 (Num (pos 5)) ∷ sized 1 Null ∷ []) fresh) ≡ Some (Throws (Throw.Dml Op.Insert (pos 1) (Error.Required (codes "Size"))))
+second_fails : thrown (insert alone here 0 (sized 0 (Num (pos 5)) ∷ sized 1 Null ∷ []) fresh) ≡ Some (Leaves (Throw.Dml Op.Insert (pos 1) (Error.Required (codes "Size"))))
 second_fails = refl
 
 second_rows : changes (insert alone here 0 (sized 0 (Num (pos 5)) ∷ sized 1 Null ∷ []) fresh) ≡ []
@@ -124,7 +126,7 @@ second_counts : counts (insert alone here 0 (sized 0 (Num (pos 5)) ∷ sized 1 N
 second_counts = refl
 
 -- one record object twice, after the charges
-twice : thrown (insert alone here 0 (sized 4 (Num (pos 5)) ∷ sized 4 (Num (pos 5)) ∷ []) fresh) ≡ Some (Throws Throw.DuplicateRecord)
+twice : thrown (insert alone here 0 (sized 4 (Num (pos 5)) ∷ sized 4 (Num (pos 5)) ∷ []) fresh) ≡ Some (Leaves Throw.DuplicateRecord)
 twice = refl
 
 twice_counts : counts (insert alone here 0 (sized 4 (Num (pos 5)) ∷ sized 4 (Num (pos 5)) ∷ []) fresh) ≡ 1 ∷ 2 ∷ 0 ∷ 0 ∷ []
@@ -134,7 +136,7 @@ twice_counts = refl
 abbrev with_id : SaveRow
 with_id = record { key = 0; id = Some (codes "001000000000001"); cells = Some (Id (codes "001000000000001")) ∷ None ∷ Some (Num (pos 5)) ∷ None ∷ [] }
 
-has_an_id : thrown (saved with_id) ≡ Some (Throws (Throw.Dml Op.Insert (pos 0) Error.IdInInsert))
+has_an_id : thrown (saved with_id) ≡ Some (Leaves (Throw.Dml Op.Insert (pos 0) Error.IdInInsert))
 has_an_id = refl
 
 -- no record: nothing but the statement is charged
@@ -146,12 +148,12 @@ abbrev led : ℕ → List ℕ → SaveRow
 led key id = record { key = key; id = None; cells = None ∷ None ∷ Some (Id id) ∷ [] }
 
 asks : thrown (insert alone here 1 (led 0 (codes "001000000000002") ∷ led 1 (codes "001000000000001") ∷ led 2 (codes "001000000000002") ∷ []) fresh)
-    ≡ Some (Needs (Read 0 (by_ids (codes "001000000000001" ∷ codes "001000000000002" ∷ []))))
+    ≡ Some (Closes (Needs (Read 0 (by_ids (codes "001000000000001" ∷ codes "001000000000002" ∷ [])))))
 asks = refl
 
 -- it names no row
 dangles : thrown (insert alone here 1 (led 0 (codes "001000000000001") ∷ []) (record fresh { tape = RowsOf [] ∷ [] }))
-    ≡ Some (Throws (Throw.Dml Op.Insert (pos 0) (Error.NoReference (codes "Payer"))))
+    ≡ Some (Leaves (Throw.Dml Op.Insert (pos 0) (Error.NoReference (codes "Payer"))))
 dangles = refl
 
 -- it names the row that is answered
@@ -166,10 +168,10 @@ own_row = refl
 abbrev owned : Cell → SaveRow
 owned c = record { key = 0; id = None; cells = None ∷ Some c ∷ Some (Num (pos 5)) ∷ None ∷ [] }
 
-no_owner : thrown (saved (owned Null)) ≡ Some (Throws (Throw.Dml Op.Insert (pos 0) (Error.NoReference (codes "OwnerId"))))
+no_owner : thrown (saved (owned Null)) ≡ Some (Leaves (Throw.Dml Op.Insert (pos 0) (Error.NoReference (codes "OwnerId"))))
 no_owner = refl
 
-other_owner : thrown (saved (owned (Id (user_id 1)))) ≡ Some (Throws (Throw.Dml Op.Insert (pos 0) (Error.NoReference (codes "OwnerId"))))
+other_owner : thrown (saved (owned (Id (user_id 1)))) ≡ Some (Leaves (Throw.Dml Op.Insert (pos 0) (Error.NoReference (codes "OwnerId"))))
 other_owner = refl
 
 -- the level of a RowShare is one of two
@@ -191,7 +193,7 @@ of_size = roll-Cond (Cond-F.Compare (record { parents = []; field = 2 }) Equal (
 abbrev with_own : List Answer → Txn
 with_own tape = record fresh { overlay = (codes "001000100000001", Now (a_row (codes "001000100000001"))) ∷ []; tape = tape }
 
-abbrev answered : Res Txn ℕ → List ℕ
+abbrev answered : Res Txn Thrown ℕ → List ℕ
 answered (Gives n t) = n ∷ counter Queries t.charges ∷ counter Rows t.charges ∷ []
 answered (Stops why t) = []
 

@@ -8,7 +8,8 @@ use Rattle.apex_rows.specs.declared.row.Row.{Row}
 use Rattle.row_meaning.specs.Conds.{holds_of, local_part}
 use Rattle.row_meaning.specs.Overlays.{Overlay, Change, Now, Gone, touched_ids, merged}
 use Rattle.row_meaning.specs.Stores.{has_id}
-use Rattle.save_meaning.specs.Transactions.{Res, Gives, bind, Keeps, charge, ask}
+use Rattle.save_meaning.specs.Results.{Res, Gives, bind}
+use Rattle.save_meaning.specs.Transactions.{Keeps, charge, ask}
 use Rattle.save_meaning.specs.Inserts.{rows_of_answer}
 
 -- the greatest number that is answered
@@ -20,7 +21,7 @@ abbrev pub count_of : Overlay → ℕ → Cond → List Row → ℕ
 count_of overlay object c answered = min (length (filter (holds_of c) (merged overlay object answered))) count_most
 
 -- one query, one question, and one row, whatever the number is
-abbrev pub count : {S : Type 0} → Keeps S → ℕ → Cond → S → Res S ℕ
+abbrev pub count : {S E : Type 0} → Keeps S → ℕ → Cond → S → Res S E ℕ
 count keeps object c s =
     bind (charge keeps Queries 1 s) (λ u s1.
     bind (ask keeps (Read object (All (local_part c))) s1) (λ a s2.

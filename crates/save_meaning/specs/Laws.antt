@@ -3,7 +3,8 @@ use Rattle.std.specs.Prelude.{◌≡◌, ◌&&◌, eqb, ℕ, List, min, length, 
 use Rattle.apex_requests.specs.declared.request.SaveRow.{SaveRow}
 use Rattle.platform_errors.specs.declared.thrown.Thrown.{Thrown}
 use Rattle.save_meaning.specs.Sites.{Site}
-use Rattle.save_meaning.specs.Transactions.{Txn, Keeps, Stops, Throws}
+use Rattle.save_meaning.specs.Results.{Leaves, Stops}
+use Rattle.save_meaning.specs.Transactions.{Txn, Keeps}
 use Rattle.save_meaning.specs.Inserts.{insert}
 use Rattle.save_meaning.specs.Counts.{IsKeyed, count_of, count_most}
 use Rattle.apex_rows.specs.declared.query.Cond.{Cond}
@@ -21,7 +22,7 @@ alone = record { txn = λ t. t; with_txn = λ t s. t }
 abbrev pub FailedInsertsChangeNothing : Type 0
 FailedInsertsChangeNothing =
     (site : Site) (object : ℕ) (rows : List SaveRow) (t later : Txn) (why : Thrown) →
-    insert alone site object rows t ≡ Stops (Throws why) later → later.overlay ≡ t.overlay
+    insert alone site object rows t ≡ Stops (Leaves why) later → later.overlay ≡ t.overlay
 
 -- what is counted over a store's answer is how many rows of the whole store, as the transaction sees it, meet the condition
 abbrev pub CountsAreOfTheWholeStore : Type 0

@@ -1,4 +1,5 @@
 pub mod Sites
+pub mod Results
 pub mod Transactions
 pub mod Drafts
 pub mod Inserts

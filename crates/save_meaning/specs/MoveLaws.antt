@@ -8,7 +8,8 @@ use Rattle.apex_rows.specs.declared.query.Answer.{Answer}
 use Rattle.apex_requests.specs.declared.request.SaveRow.{SaveRow}
 use Rattle.row_meaning.specs.Overlays.{Overlay}
 use Rattle.save_meaning.specs.Sites.{Site}
-use Rattle.save_meaning.specs.Transactions as Save
+use Rattle.save_meaning.specs.Results as Result
+use Rattle.save_meaning.specs.Results.{Leaves, Closes, Res, Gives, Stops}
 use Rattle.save_meaning.specs.Transactions.{Txn}
 use Rattle.save_meaning.specs.Inserts.{insert}
 use Rattle.save_meaning.specs.Laws.{alone}
@@ -49,11 +50,11 @@ module _ (site : Site) where
   moves (suc n) run w tape = onward (moves n) (move site run w) run w tape
 
 -- an ending is what an insert comes to
-abbrev pub IsEnd : List Overlay → Save.Res Txn (List (List ℕ)) → Ending → Type 0
-IsEnd saved (Save.Gives ids t) (Saved found w tape) = (found ≡ ids) × Alike saved w t × (tape ≡ t.tape)
-IsEnd saved (Save.Stops (Save.Throws why) t) (Threw found w) = (found ≡ why) × Alike saved w t
-IsEnd saved (Save.Stops (Save.Halts k n) t) (Halted j m w) = (j ≡ k) × (m ≡ n) × Counts t.charges w.meter
-IsEnd saved (Save.Stops (Save.Needs q) t) (Wants found) = found ≡ q
+abbrev pub IsEnd : List Overlay → Res Txn Thrown (List (List ℕ)) → Ending → Type 0
+IsEnd saved (Gives ids t) (Saved found w tape) = (found ≡ ids) × Alike saved w t × (tape ≡ t.tape)
+IsEnd saved (Stops (Leaves why) t) (Threw found w) = (found ≡ why) × Alike saved w t
+IsEnd saved (Stops (Closes (Result.Halts k n)) t) (Halted j m w) = (j ≡ k) × (m ≡ n) × Counts t.charges w.meter
+IsEnd saved (Stops (Closes (Result.Needs q)) t) (Wants found) = found ≡ q
 IsEnd saved _ _ = ⊥
 
 -- on every tape the moves of an insert come to what it means

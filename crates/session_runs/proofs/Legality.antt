@@ -24,7 +24,6 @@ use Rattle.stack_code.specs.declared.code.Image.{Image}
 use Rattle.type_names.specs.declared.fault.TreeFault.{TreeFault}
 use Rattle.typed_program.specs.declared.program.Program.{Program}
 use Rattle.typed_program.specs.declared.stmt.TypedStmt.{TypedStmt}
-use Rattle.typed_program.specs.declared.unit.TypedUnit.{TypedUnit}
 use Rattle.apex_meaning.specs.Runs.{run, run_or, stmts_or, block_at}
 use Rattle.metered_vm.specs.Runs.{plain}
 use Rattle.session_runs.specs.Replies.{open_in, Replies, RepliesOpen, RepliesAt, RunsFrom, IsRunOf}
@@ -35,7 +34,7 @@ refused_evaluates : (store : List Row) (go : List Answer → Run) (reply : Reply
 refused_evaluates store go reply writes e = record { tape = []; follows = tt; ends = e; grabs_are = refl }
 
 -- an image stands where its block does
-image_there : (n : ℕ) (blocks : List (Result TypedUnit TreeFault)) (images : List (Option Image)) → AreImages blocks images → IsImage (stmts_or (slice_get blocks n)) (there images n)
+image_there : (n : ℕ) (blocks : List (Result (List TypedStmt) TreeFault)) (images : List (Option Image)) → AreImages blocks images → IsImage (stmts_or (slice_get blocks n)) (there images n)
 image_there n [] [] h = tt
 image_there n [] (i ∷ is) h = absurd h
 image_there n (b ∷ bs) [] h = absurd h

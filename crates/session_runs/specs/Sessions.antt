@@ -23,7 +23,6 @@ use Rattle.apex_meaning.specs.Runs.{run, stmts_of}
 use Rattle.type_names.specs.declared.fault.TreeFault.{TreeFault}
 use Rattle.typed_program.specs.declared.program.Program.{Program}
 use Rattle.typed_program.specs.declared.stmt.TypedStmt.{TypedStmt}
-use Rattle.typed_program.specs.declared.unit.TypedUnit.{TypedUnit}
 
 -- ---- blocks and images by their numbers
 
@@ -49,7 +48,7 @@ IsImage (Some block) (Some image) = Means block image
 IsImage _ _ = ⊥
 
 -- so it is for each block of a program, by their numbers
-abbrev pub AreImages : List (Result TypedUnit TreeFault) → List (Option Image) → Type 0
+abbrev pub AreImages : List (Result (List TypedStmt) TreeFault) → List (Option Image) → Type 0
 AreImages [] [] = Unit {0}
 AreImages (b ∷ bs) (i ∷ is) = IsImage (stmts_of b) i × AreImages bs is
 AreImages _ _ = ⊥

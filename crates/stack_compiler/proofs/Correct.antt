@@ -11,20 +11,26 @@ use Rattle.tenant_trails.specs.Runs as Trail
 use Rattle.txn_overlay.specs.Changes.{writes_of}
 use Rattle.txn_overlay.specs.Journals.{Layers}
 use Rattle.typed_program.specs.declared.stmt.TypedStmt.{TypedStmt}
-use Rattle.apex_meaning.specs.States.{State, Throws, Halts, Needs, Unbuilt, Leaves, Closes, Res, Gives, Stops}
+use Rattle.activations.specs.declared.abrupt.Abrupt.TheVariants.{Throws, Returns, Breaks, Continues}
+use Rattle.activations.specs.declared.abrupt.Abrupt.{Abrupt}
+use Rattle.activations.specs.declared.abrupt.Raised.TheVariants.{Platform, Made}
+use Rattle.save_meaning.specs.Results.{Halts, Needs, Unfinished, Unbuilt, Leaves, Closes, Gives, Stops, Holds}
+use Rattle.apex_meaning.specs.States.{State, Res}
 use Rattle.apex_meaning.specs.Statements.{does_all}
-use Rattle.apex_meaning.specs.Runs.{ended, run_of, first_state, block_run}
+use Rattle.apex_meaning.specs.Runs.{ended, whole, left_by, run_of, first_state, block_run}
 use Rattle.stack_code.specs.declared.code.Config.{Config}
 use Rattle.stack_code.specs.declared.code.Image.{Image}
 use Rattle.stack_code.proofs.Fetch.{fetch_none}
 use Rattle.stack_code.specs.Checked.{IsFed}
-use Rattle.stack_code.specs.Machine.{Next, Goes, Asks, Over, Stuck, act, step, given, over_at, answered, drive, steps, Ends, start}
+use Rattle.stack_code.specs.Next.{reply_of, Next, Goes, Asks, Over, Stuck}
+use Rattle.stack_code.specs.Machine.{act, step, given, over_at, answered, drive, steps, Ends, start}
 use Rattle.stack_compiler.specs.Code.{block_code}
 use Rattle.stack_compiler.specs.Means.{CodeMeansBlocks}
-use Rattle.stack_compiler.proofs.Simulates.{Holds, config, same_reply, At, Stopped, stepped}
-use Rattle.stack_compiler.proofs.Trees.{stmts_at}
+use Rattle.stack_compiler.proofs.Simulates.{world, config, Stands, same_reply, At, Left, Stopped, stepped}
+use Rattle.stack_compiler.proofs.Statements.{stmts_at}
 use Rattle.stack_compiler.proofs.Feeds.{block_fed}
 use Rattle.save_meaning.specs.Sites.{Site}
+use Rattle.save_meaning.specs.declared.run.TxnState.{TxnState}
 
 module _ (site : Site) (image : Image) where
   -- ---- on a tape a machine has one end, and comes to it in one number of steps
@@ -53,27 +59,38 @@ module _ (site : Site) (image : Image) where
   -- ---- behind the last instruction
 
   module _ (r : Trail.Run) where
+    -- the request came to its end
+    whole_is : (st : State) (w : TxnState) → Stands st w → whole site.ticket st.world ≡ r →
+        Trail.Ends (reply_of O.Ok (world st w)) (writes_of site.ticket.session site.ticket.index w.overlay.now) ≡ r
+    whole_is st w a is =
+        ap (λ x. Trail.Ends x (writes_of site.ticket.session site.ticket.index w.overlay.now)) (same_reply O.Ok [] st w a)
+        ∙ ap (λ (j : Layers). Trail.Ends (ended O.Ok st.world) (writes_of site.ticket.session site.ticket.index j.now)) a.overlay ∙ is
+
     finished : (st : State) → run_of site (Gives (tt {0}) st) ≡ r → At site image r [] [] st
     finished st is = record {
       by = λ pc w a d.
           stepped site image r (config pc [] st w) st.world.txn.tape (act site None (config pc [] st w))
-          (ap (λ o. act site o (config pc [] st w)) (fetch_none pc image.body d)) (
-            0,
-            ap Some
-                (ap (λ x. Trail.Ends x (writes_of site.ticket.session site.ticket.index w.overlay.now)) (same_reply O.Ok [] st w a)
-                ∙ ap (λ (j : Layers). Trail.Ends (ended O.Ok st.world) (writes_of site.ticket.session site.ticket.index j.now)) a.overlay ∙ is),
-          );
+          (ap (λ o. act site o (config pc [] st w)) (fetch_none pc image.body d)) (0, ap Some (whole_is st w a is));
     }
 
-    outermost : (res : Res (Unit {0})) → run_of site res ≡ r → Holds (λ u s. At site image r [] [] s) (Stopped site image r) res
-    outermost (Gives u st) is = finished st is
-    outermost (Stops (Leaves (Throws t)) st) is = record {
+    -- what leaves the block
+    left : (why : Abrupt) (st : State) → left_by site.ticket why st.world ≡ r → Left site image r why st
+    left (Throws (Platform t)) st is = record {
       by = λ pc temps w a.
           stepped site image r _ st.world.txn.tape _ refl
           (0, ap Some (ap (λ x. Trail.Ends x no_writes) (same_reply (O.Thrown (class_name (class t)) (message t)) [] st w a) ∙ is));
     }
+    left (Throws (Made x)) st is = record { by = λ pc temps w a. stepped site image r _ st.world.txn.tape _ refl (0, ap Some is) }
+    left (Returns v) st is = record { by = λ pc temps w a. stepped site image r _ st.world.txn.tape _ refl (0, ap Some (whole_is st w a is)) }
+    left Breaks st is = record { by = λ pc temps w a. stepped site image r _ st.world.txn.tape _ refl (0, ap Some (whole_is st w a is)) }
+    left Continues st is = record { by = λ pc temps w a. stepped site image r _ st.world.txn.tape _ refl (0, ap Some (whole_is st w a is)) }
+
+    outermost : (res : Res (Unit {0})) → run_of site res ≡ r → Holds (λ u s. At site image r [] [] s) (Stopped site image r) res
+    outermost (Gives u st) is = finished st is
+    outermost (Stops (Leaves why) st) is = left why st is
     outermost (Stops (Closes (Halts k n)) st) is = is
     outermost (Stops (Closes (Needs q)) st) is = is
+    outermost (Stops (Closes Unfinished) st) is = is
     outermost (Stops (Closes Unbuilt) st) is = is
 
   comes : (block : List TypedStmt) → image.body ≡ block_code block → (tape : List Answer) → (n : ℕ) × Ends site image start tape n (block_run site block tape)

@@ -8,7 +8,9 @@ use Rattle.apex_num.specs.declared.cell.Cell.TheVariants as C
 use Rattle.typed_program.specs.declared.stmt.TypedLocal.{TypedLocal}
 use Rattle.typed_program.specs.declared.expr.TypedPair.{TypedPair}
 use Rattle.stack_code.specs.declared.code.Instr.TheVariants as I
-use Rattle.stack_compiler.specs.Code.{Code, joined, pairs_code, fields_of, pair_code, local_code, locals_code}
+use Rattle.stack_compiler.specs.Codes.{Code, joined}
+use Rattle.stack_compiler.specs.Things.{pairs_code, fields_of}
+use Rattle.stack_compiler.specs.Code.{pair_code, local_code, locals_code}
 
 module _ {A : Type 0} (f : A → Code) where
   joined-append : (xs ys : List A) → joined (map f (xs ++ ys)) ≡ joined (map f xs) ++ joined (map f ys)

@@ -1,5 +1,10 @@
+pub mod Emits
 pub mod Simulates
+pub mod OfValues
+pub mod OfPlaces
+pub mod OfThings
+pub mod OfSaves
 pub mod Trees
+pub mod Statements
 pub mod Feeds
 pub mod Correct
-pub mod Emits

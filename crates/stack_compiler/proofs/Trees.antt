@@ -1,18 +1,7 @@
--- Every tree's code does what the tree means.
-use Rattle.std.proofs.Common.{◌≡◌, ℕ, List, [], ◌∷◌, ◌++◌, map, Option, None, Some, refl, sym, ap, ◌∙◌, subst, append_assoc}
-use Rattle.apex_num.specs.declared.cell.Cell.TheVariants as C
-use Rattle.apex_num.specs.declared.kind.LimitKind.TheVariants.{Steps}
-use Rattle.apex_syntax.specs.declared.stmt.DmlOp.TheVariants as Dml
+-- The code of every expression does what the expression means.
+use Rattle.std.proofs.Common.{◌≡◌, ℕ, List, [], ◌∷◌, ◌++◌, map, Option, None, Some, refl, sym, ap, ◌∙◌, subst}
 use Rattle.tenant_trails.specs.Runs as Trail
-use Rattle.txn_heap.specs.declared.thing.Value.{Value}
-use Rattle.typed_program.specs.declared.stmt.TypedCatch.{TypedCatch}
-use Rattle.typed_program.specs.declared.stmt.TypedLocal.{TypedLocal}
-use Rattle.typed_program.specs.declared.stmt.TypedStmt.{TypedStmt}
-use Rattle.typed_program.specs.declared.stmt.TypedStmt.TheOpen.{TypedStmt-F}
-use Rattle.typed_program.specs.declared.stmt.TypedStmt.TheViews.{roll-TypedStmt}
-use Rattle.typed_program.specs.declared.stmt.TypedStmt.TheFolds.{fold-TypedCatch, fold-roll-TypedStmt, ind-TypedStmt, map-TypedStmt}
 use Rattle.typed_program.specs.declared.expr.CollectionKind.TheVariants as Kind
-use Rattle.typed_program.specs.declared.expr.Number.TheVariants as Number
 use Rattle.typed_program.specs.declared.expr.TypedBind.{TypedBind}
 use Rattle.typed_program.specs.declared.expr.TypedExpr.{TypedExpr}
 use Rattle.typed_program.specs.declared.expr.TypedItem.{TypedItem}
@@ -20,21 +9,32 @@ use Rattle.typed_program.specs.declared.expr.TypedNew.{TypedNew}
 use Rattle.typed_program.specs.declared.expr.TypedOperand.{TypedOperand}
 use Rattle.typed_program.specs.declared.expr.TypedPair.{TypedPair}
 use Rattle.typed_program.specs.declared.expr.TypedPart.{TypedPart}
-use Rattle.typed_program.specs.declared.expr.TypedBind.TheOpen.{TypedExpr-F, TypedNew-F, TypedOperand-F, TypedPair-F}
-use Rattle.typed_program.specs.declared.expr.TypedBind.TheViews.{roll-TypedExpr, roll-TypedNew, roll-TypedOperand, roll-TypedPair}
-use Rattle.typed_program.specs.declared.expr.TypedBind.TheFolds.{fold-TypedBind, fold-TypedPart, fold-TypedItem, fold-roll-TypedExpr, fold-roll-TypedNew, fold-roll-TypedOperand, fold-roll-TypedPair, ind-TypedExpr, map-TypedExpr, map-TypedNew, map-TypedOperand, map-TypedPair}
-use Rattle.apex_meaning.specs.States.{State, Gives, bind, unbuilt, charge, set_local}
-use Rattle.apex_meaning.specs.Values.{is_cell, negative}
+use Rattle.typed_program.specs.declared.expr.TypedPlace.{TypedPlace}
+use Rattle.typed_program.specs.declared.expr.TypedBind.TheOpen.{TypedExpr-F, TypedNew-F, TypedPlace-F, TypedOperand-F, TypedPair-F}
+use Rattle.typed_program.specs.declared.expr.TypedBind.TheViews.{roll-TypedExpr, roll-TypedNew, roll-TypedPlace, roll-TypedOperand, roll-TypedPair}
+use Rattle.typed_program.specs.declared.expr.TypedBind.TheFolds.{fold-TypedBind, fold-TypedPart, fold-TypedItem, fold-roll-TypedExpr, fold-roll-TypedNew, fold-roll-TypedPlace, fold-roll-TypedOperand, fold-roll-TypedPair, ind-TypedExpr, map-TypedExpr, map-TypedNew, map-TypedPlace, map-TypedOperand, map-TypedPair}
+use Rattle.save_meaning.specs.Results.{Gives, bind}
+use Rattle.save_meaning.proofs.Holding.{bind_bind}
+use Rattle.apex_meaning.specs.States.{State, unbuilt}
+use Rattle.value_operators.specs.Operators.{negated}
+use Rattle.apex_meaning.specs.Values.{is_cell}
+use Rattle.apex_meaning.specs.Meanings.{Run, Behind, calc, truth_of}
+use Rattle.apex_meaning.specs.Operations.{convert, operated, chained}
+use Rattle.apex_meaning.specs.Places.{LocalAt, Where}
 use Rattle.apex_meaning.specs.Expressions as E
-use Rattle.apex_meaning.specs.Expressions.{Run, Behind}
-use Rattle.apex_meaning.specs.Statements as D
 use Rattle.apex_meaning.specs.Statements.{Do}
 use Rattle.stack_code.specs.declared.code.Image.{Image}
 use Rattle.stack_code.specs.declared.code.Instr.{Instr}
 use Rattle.stack_code.specs.declared.code.Instr.TheVariants as I
 use Rattle.stack_compiler.specs.Code
-use Rattle.stack_compiler.specs.Code.{Code as Codes}
+use Rattle.stack_compiler.specs.Codes
+use Rattle.stack_compiler.specs.Codes.{Code as Instrs}
+use Rattle.stack_compiler.specs.Values as V
 use Rattle.stack_compiler.proofs.Simulates
+use Rattle.stack_compiler.proofs.OfValues
+use Rattle.stack_compiler.proofs.OfPlaces
+use Rattle.stack_compiler.proofs.OfThings
+use Rattle.stack_compiler.proofs.OfSaves
 use Rattle.save_meaning.specs.Sites.{Site}
 
 module _ (site : Site) (image : Image) (r : Trail.Run) where
@@ -61,6 +61,9 @@ module _ (site : Site) (image : Image) (r : Trail.Run) where
   abbrev OfPart : TypedPart → Type 0
   OfPart p = Unit {0}
 
+  abbrev OfPlace : TypedPlace → Type 0
+  OfPlace p = OfPlaces.IsPlace (E.place_of site p) (Code.place_slot p)
+
   abbrev OfItem : TypedItem → Type 0
   OfItem i = Unit {0}
 
@@ -68,7 +71,7 @@ module _ (site : Site) (image : Image) (r : Trail.Run) where
   OfOperand o = Takes (E.operand_of site o) (Code.operand_code o)
 
   abbrev OfPair : TypedPair → Type 0
-  OfPair p = Simulates.OfPair site image r p
+  OfPair p = OfThings.OfPair site image r p
 
   abbrev SuchBind : Type 0
   SuchBind = (b : TypedBind) × OfBind b
@@ -82,6 +85,9 @@ module _ (site : Site) (image : Image) (r : Trail.Run) where
   abbrev SuchPart : Type 0
   SuchPart = (p : TypedPart) × OfPart p
 
+  abbrev SuchPlace : Type 0
+  SuchPlace = (p : TypedPlace) × OfPlace p
+
   abbrev SuchItem : Type 0
   SuchItem = (i : TypedItem) × OfItem i
 
@@ -92,81 +98,126 @@ module _ (site : Site) (image : Image) (r : Trail.Run) where
   SuchPair = (p : TypedPair) × OfPair p
 
   abbrev bind_run : TypedBind → Run
-  bind_run = fold-TypedBind Run Run Run Behind Run Behind (ℕ × Run) (E.bind_step site) (E.expr_step site) (E.new_step site) (E.part_step site) (E.item_step site) E.operand_step (E.pair_step site)
+  bind_run = fold-TypedBind Run Run Run Behind Where Run Behind (ℕ × Run) (E.bind_step site) (E.expr_step site) (E.new_step site) (E.part_step site) (E.place_step site) (E.item_step site) E.operand_step (E.pair_step site)
 
   abbrev part_run : TypedPart → Behind
-  part_run = fold-TypedPart Run Run Run Behind Run Behind (ℕ × Run) (E.bind_step site) (E.expr_step site) (E.new_step site) (E.part_step site) (E.item_step site) E.operand_step (E.pair_step site)
+  part_run = fold-TypedPart Run Run Run Behind Where Run Behind (ℕ × Run) (E.bind_step site) (E.expr_step site) (E.new_step site) (E.part_step site) (E.place_step site) (E.item_step site) E.operand_step (E.pair_step site)
 
   abbrev item_run : TypedItem → Run
-  item_run = fold-TypedItem Run Run Run Behind Run Behind (ℕ × Run) (E.bind_step site) (E.expr_step site) (E.new_step site) (E.part_step site) (E.item_step site) E.operand_step (E.pair_step site)
+  item_run = fold-TypedItem Run Run Run Behind Where Run Behind (ℕ × Run) (E.bind_step site) (E.expr_step site) (E.new_step site) (E.part_step site) (E.place_step site) (E.item_step site) E.operand_step (E.pair_step site)
 
-  abbrev bind_code : TypedBind → Codes
-  bind_code = fold-TypedBind Codes Codes Codes Codes Codes Codes (ℕ × Codes) Code.bind_step Code.expr_step Code.new_step Code.part_step Code.item_step Code.operand_step Code.pair_step
+  abbrev bind_code : TypedBind → Instrs
+  bind_code = fold-TypedBind Instrs Instrs Instrs Instrs (Option ℕ) Instrs Instrs (ℕ × Instrs) Code.bind_step Code.expr_step Code.new_step Code.part_step Code.place_step Code.item_step Code.operand_step Code.pair_step
 
-  abbrev part_code : TypedPart → Codes
-  part_code = fold-TypedPart Codes Codes Codes Codes Codes Codes (ℕ × Codes) Code.bind_step Code.expr_step Code.new_step Code.part_step Code.item_step Code.operand_step Code.pair_step
+  abbrev part_code : TypedPart → Instrs
+  part_code = fold-TypedPart Instrs Instrs Instrs Instrs (Option ℕ) Instrs Instrs (ℕ × Instrs) Code.bind_step Code.expr_step Code.new_step Code.part_step Code.place_step Code.item_step Code.operand_step Code.pair_step
 
-  abbrev item_code : TypedItem → Codes
-  item_code = fold-TypedItem Codes Codes Codes Codes Codes Codes (ℕ × Codes) Code.bind_step Code.expr_step Code.new_step Code.part_step Code.item_step Code.operand_step Code.pair_step
+  abbrev item_code : TypedItem → Instrs
+  item_code = fold-TypedItem Instrs Instrs Instrs Instrs (Option ℕ) Instrs Instrs (ℕ × Instrs) Code.bind_step Code.expr_step Code.new_step Code.part_step Code.place_step Code.item_step Code.operand_step Code.pair_step
+
+  -- layers over such parts, and the trees that they make
+  abbrev ExprLayer : Type 0
+  ExprLayer = TypedExpr-F SuchBind SuchExpr SuchNew SuchPart SuchPlace SuchItem SuchOperand SuchPair
+
+  abbrev expr_in : ExprLayer → TypedExpr
+  expr_in y = roll-TypedExpr (map-TypedExpr SuchBind SuchExpr SuchNew SuchPart SuchPlace SuchItem SuchOperand SuchPair TypedBind TypedExpr TypedNew TypedPart TypedPlace TypedItem TypedOperand TypedPair (λ e. e.0) (λ e. e.0) (λ e. e.0) (λ e. e.0) (λ e. e.0) (λ e. e.0) (λ e. e.0) (λ e. e.0) y)
+
+  abbrev NewLayer : Type 0
+  NewLayer = TypedNew-F SuchBind SuchExpr SuchNew SuchPart SuchPlace SuchItem SuchOperand SuchPair
+
+  abbrev new_in : NewLayer → TypedNew
+  new_in y = roll-TypedNew (map-TypedNew SuchBind SuchExpr SuchNew SuchPart SuchPlace SuchItem SuchOperand SuchPair TypedBind TypedExpr TypedNew TypedPart TypedPlace TypedItem TypedOperand TypedPair (λ e. e.0) (λ e. e.0) (λ e. e.0) (λ e. e.0) (λ e. e.0) (λ e. e.0) (λ e. e.0) (λ e. e.0) y)
+
+  abbrev PlaceLayer : Type 0
+  PlaceLayer = TypedPlace-F SuchBind SuchExpr SuchNew SuchPart SuchPlace SuchItem SuchOperand SuchPair
+
+  abbrev place_in : PlaceLayer → TypedPlace
+  place_in y = roll-TypedPlace (map-TypedPlace SuchBind SuchExpr SuchNew SuchPart SuchPlace SuchItem SuchOperand SuchPair TypedBind TypedExpr TypedNew TypedPart TypedPlace TypedItem TypedOperand TypedPair (λ e. e.0) (λ e. e.0) (λ e. e.0) (λ e. e.0) (λ e. e.0) (λ e. e.0) (λ e. e.0) (λ e. e.0) y)
+
+  abbrev OperandLayer : Type 0
+  OperandLayer = TypedOperand-F SuchBind SuchExpr SuchNew SuchPart SuchPlace SuchItem SuchOperand SuchPair
+
+  abbrev operand_in : OperandLayer → TypedOperand
+  operand_in y = roll-TypedOperand (map-TypedOperand SuchBind SuchExpr SuchNew SuchPart SuchPlace SuchItem SuchOperand SuchPair TypedBind TypedExpr TypedNew TypedPart TypedPlace TypedItem TypedOperand TypedPair (λ e. e.0) (λ e. e.0) (λ e. e.0) (λ e. e.0) (λ e. e.0) (λ e. e.0) (λ e. e.0) (λ e. e.0) y)
+
+  abbrev PairLayer : Type 0
+  PairLayer = TypedPair-F SuchBind SuchExpr SuchNew SuchPart SuchPlace SuchItem SuchOperand SuchPair
+
+  abbrev pair_in : PairLayer → TypedPair
+  pair_in y = roll-TypedPair (map-TypedPair SuchBind SuchExpr SuchNew SuchPart SuchPlace SuchItem SuchOperand SuchPair TypedBind TypedExpr TypedNew TypedPart TypedPlace TypedItem TypedOperand TypedPair (λ e. e.0) (λ e. e.0) (λ e. e.0) (λ e. e.0) (λ e. e.0) (λ e. e.0) (λ e. e.0) (λ e. e.0) y)
 
   -- one layer: its step is what it does, and its step is its code
-  puts_expr : (z : TypedExpr-F TypedBind TypedExpr TypedNew TypedPart TypedItem TypedOperand TypedPair) (f : Run) (is : List Instr) → ((st : State) → E.expr_step site (map-TypedExpr TypedBind TypedExpr TypedNew TypedPart TypedItem TypedOperand TypedPair Run Run Run Behind Run Behind (ℕ × Run) bind_run (E.value_of site) (E.new_of site) part_run item_run (E.operand_of site) (E.pair_of site) z) st ≡ f st) →
-      Code.expr_step (map-TypedExpr TypedBind TypedExpr TypedNew TypedPart TypedItem TypedOperand TypedPair Codes Codes Codes Codes Codes Codes (ℕ × Codes) bind_code Code.expr_code Code.new_code part_code item_code Code.operand_code Code.pair_code z) ≡ is → Puts f is → Puts (E.value_of site (roll-TypedExpr z)) (Code.expr_code (roll-TypedExpr z))
+  puts_expr : (z : TypedExpr-F TypedBind TypedExpr TypedNew TypedPart TypedPlace TypedItem TypedOperand TypedPair) (f : Run) (is : List Instr) → ((st : State) → E.expr_step site (map-TypedExpr TypedBind TypedExpr TypedNew TypedPart TypedPlace TypedItem TypedOperand TypedPair Run Run Run Behind Where Run Behind (ℕ × Run) bind_run (E.value_of site) (E.new_of site) part_run (E.place_of site) item_run (E.operand_of site) (E.pair_of site) z) st ≡ f st) →
+      Code.expr_step (map-TypedExpr TypedBind TypedExpr TypedNew TypedPart TypedPlace TypedItem TypedOperand TypedPair Instrs Instrs Instrs Instrs (Option ℕ) Instrs Instrs (ℕ × Instrs) bind_code Code.expr_code Code.new_code part_code Code.place_slot item_code Code.operand_code Code.pair_code z) ≡ is → Puts f is → Puts (E.value_of site (roll-TypedExpr z)) (Code.expr_code (roll-TypedExpr z))
   puts_expr z f is q e h =
       Simulates.puts_same site image r (E.value_of site (roll-TypedExpr z)) f (Code.expr_code (roll-TypedExpr z)) is
-      (λ st. ap (λ g. g st) (fold-roll-TypedExpr Run Run Run Behind Run Behind (ℕ × Run) (E.bind_step site) (E.expr_step site) (E.new_step site) (E.part_step site) (E.item_step site) E.operand_step (E.pair_step site) z) ∙ q st) (fold-roll-TypedExpr Codes Codes Codes Codes Codes Codes (ℕ × Codes) Code.bind_step Code.expr_step Code.new_step Code.part_step Code.item_step Code.operand_step Code.pair_step z ∙ e) h
+      (λ st. ap (λ g. g st) (fold-roll-TypedExpr Run Run Run Behind Where Run Behind (ℕ × Run) (E.bind_step site) (E.expr_step site) (E.new_step site) (E.part_step site) (E.place_step site) (E.item_step site) E.operand_step (E.pair_step site) z) ∙ q st) (fold-roll-TypedExpr Instrs Instrs Instrs Instrs (Option ℕ) Instrs Instrs (ℕ × Instrs) Code.bind_step Code.expr_step Code.new_step Code.part_step Code.place_step Code.item_step Code.operand_step Code.pair_step z ∙ e) h
 
-  puts_new : (z : TypedNew-F TypedBind TypedExpr TypedNew TypedPart TypedItem TypedOperand TypedPair) (f : Run) (is : List Instr) → ((st : State) → E.new_step site (map-TypedNew TypedBind TypedExpr TypedNew TypedPart TypedItem TypedOperand TypedPair Run Run Run Behind Run Behind (ℕ × Run) bind_run (E.value_of site) (E.new_of site) part_run item_run (E.operand_of site) (E.pair_of site) z) st ≡ f st) →
-      Code.new_step (map-TypedNew TypedBind TypedExpr TypedNew TypedPart TypedItem TypedOperand TypedPair Codes Codes Codes Codes Codes Codes (ℕ × Codes) bind_code Code.expr_code Code.new_code part_code item_code Code.operand_code Code.pair_code z) ≡ is → Puts f is → Puts (E.new_of site (roll-TypedNew z)) (Code.new_code (roll-TypedNew z))
+  puts_new : (z : TypedNew-F TypedBind TypedExpr TypedNew TypedPart TypedPlace TypedItem TypedOperand TypedPair) (f : Run) (is : List Instr) → ((st : State) → E.new_step site (map-TypedNew TypedBind TypedExpr TypedNew TypedPart TypedPlace TypedItem TypedOperand TypedPair Run Run Run Behind Where Run Behind (ℕ × Run) bind_run (E.value_of site) (E.new_of site) part_run (E.place_of site) item_run (E.operand_of site) (E.pair_of site) z) st ≡ f st) →
+      Code.new_step (map-TypedNew TypedBind TypedExpr TypedNew TypedPart TypedPlace TypedItem TypedOperand TypedPair Instrs Instrs Instrs Instrs (Option ℕ) Instrs Instrs (ℕ × Instrs) bind_code Code.expr_code Code.new_code part_code Code.place_slot item_code Code.operand_code Code.pair_code z) ≡ is → Puts f is → Puts (E.new_of site (roll-TypedNew z)) (Code.new_code (roll-TypedNew z))
   puts_new z f is q e h =
       Simulates.puts_same site image r (E.new_of site (roll-TypedNew z)) f (Code.new_code (roll-TypedNew z)) is
-      (λ st. ap (λ g. g st) (fold-roll-TypedNew Run Run Run Behind Run Behind (ℕ × Run) (E.bind_step site) (E.expr_step site) (E.new_step site) (E.part_step site) (E.item_step site) E.operand_step (E.pair_step site) z) ∙ q st) (fold-roll-TypedNew Codes Codes Codes Codes Codes Codes (ℕ × Codes) Code.bind_step Code.expr_step Code.new_step Code.part_step Code.item_step Code.operand_step Code.pair_step z ∙ e) h
+      (λ st. ap (λ g. g st) (fold-roll-TypedNew Run Run Run Behind Where Run Behind (ℕ × Run) (E.bind_step site) (E.expr_step site) (E.new_step site) (E.part_step site) (E.place_step site) (E.item_step site) E.operand_step (E.pair_step site) z) ∙ q st) (fold-roll-TypedNew Instrs Instrs Instrs Instrs (Option ℕ) Instrs Instrs (ℕ × Instrs) Code.bind_step Code.expr_step Code.new_step Code.part_step Code.place_step Code.item_step Code.operand_step Code.pair_step z ∙ e) h
 
-  lacks_expr : (z : TypedExpr-F TypedBind TypedExpr TypedNew TypedPart TypedItem TypedOperand TypedPair) → ((st : State) → E.expr_step site (map-TypedExpr TypedBind TypedExpr TypedNew TypedPart TypedItem TypedOperand TypedPair Run Run Run Behind Run Behind (ℕ × Run) bind_run (E.value_of site) (E.new_of site) part_run item_run (E.operand_of site) (E.pair_of site) z) st ≡ unbuilt st) →
-      Code.expr_step (map-TypedExpr TypedBind TypedExpr TypedNew TypedPart TypedItem TypedOperand TypedPair Codes Codes Codes Codes Codes Codes (ℕ × Codes) bind_code Code.expr_code Code.new_code part_code item_code Code.operand_code Code.pair_code z) ≡ Code.unbuilt → Puts (E.value_of site (roll-TypedExpr z)) (Code.expr_code (roll-TypedExpr z))
-  lacks_expr z q e = puts_expr z (λ st. unbuilt st) Code.unbuilt q e (Simulates.puts_unbuilt site image r)
+  lacks_expr : (z : TypedExpr-F TypedBind TypedExpr TypedNew TypedPart TypedPlace TypedItem TypedOperand TypedPair) → ((st : State) → E.expr_step site (map-TypedExpr TypedBind TypedExpr TypedNew TypedPart TypedPlace TypedItem TypedOperand TypedPair Run Run Run Behind Where Run Behind (ℕ × Run) bind_run (E.value_of site) (E.new_of site) part_run (E.place_of site) item_run (E.operand_of site) (E.pair_of site) z) st ≡ unbuilt st) →
+      Code.expr_step (map-TypedExpr TypedBind TypedExpr TypedNew TypedPart TypedPlace TypedItem TypedOperand TypedPair Instrs Instrs Instrs Instrs (Option ℕ) Instrs Instrs (ℕ × Instrs) bind_code Code.expr_code Code.new_code part_code Code.place_slot item_code Code.operand_code Code.pair_code z) ≡ Codes.unbuilt → Puts (E.value_of site (roll-TypedExpr z)) (Code.expr_code (roll-TypedExpr z))
+  lacks_expr z q e = puts_expr z (λ st. unbuilt st) Codes.unbuilt q e (Simulates.puts_unbuilt site image r)
 
-  lacks_new : (z : TypedNew-F TypedBind TypedExpr TypedNew TypedPart TypedItem TypedOperand TypedPair) → ((st : State) → E.new_step site (map-TypedNew TypedBind TypedExpr TypedNew TypedPart TypedItem TypedOperand TypedPair Run Run Run Behind Run Behind (ℕ × Run) bind_run (E.value_of site) (E.new_of site) part_run item_run (E.operand_of site) (E.pair_of site) z) st ≡ unbuilt st) →
-      Code.new_step (map-TypedNew TypedBind TypedExpr TypedNew TypedPart TypedItem TypedOperand TypedPair Codes Codes Codes Codes Codes Codes (ℕ × Codes) bind_code Code.expr_code Code.new_code part_code item_code Code.operand_code Code.pair_code z) ≡ Code.unbuilt → Puts (E.new_of site (roll-TypedNew z)) (Code.new_code (roll-TypedNew z))
-  lacks_new z q e = puts_new z (λ st. unbuilt st) Code.unbuilt q e (Simulates.puts_unbuilt site image r)
+  lacks_new : (z : TypedNew-F TypedBind TypedExpr TypedNew TypedPart TypedPlace TypedItem TypedOperand TypedPair) → ((st : State) → E.new_step site (map-TypedNew TypedBind TypedExpr TypedNew TypedPart TypedPlace TypedItem TypedOperand TypedPair Run Run Run Behind Where Run Behind (ℕ × Run) bind_run (E.value_of site) (E.new_of site) part_run (E.place_of site) item_run (E.operand_of site) (E.pair_of site) z) st ≡ unbuilt st) →
+      Code.new_step (map-TypedNew TypedBind TypedExpr TypedNew TypedPart TypedPlace TypedItem TypedOperand TypedPair Instrs Instrs Instrs Instrs (Option ℕ) Instrs Instrs (ℕ × Instrs) bind_code Code.expr_code Code.new_code part_code Code.place_slot item_code Code.operand_code Code.pair_code z) ≡ Codes.unbuilt → Puts (E.new_of site (roll-TypedNew z)) (Code.new_code (roll-TypedNew z))
+  lacks_new z q e = puts_new z (λ st. unbuilt st) Codes.unbuilt q e (Simulates.puts_unbuilt site image r)
 
-  expr_layer : (y : TypedExpr-F SuchBind SuchExpr SuchNew SuchPart SuchItem SuchOperand SuchPair) → Puts (E.value_of site (roll-TypedExpr (map-TypedExpr SuchBind SuchExpr SuchNew SuchPart SuchItem SuchOperand SuchPair TypedBind TypedExpr TypedNew TypedPart TypedItem TypedOperand TypedPair (λ e. e.0) (λ e. e.0) (λ e. e.0) (λ e. e.0) (λ e. e.0) (λ e. e.0) (λ e. e.0) y))) (Code.expr_code (roll-TypedExpr (map-TypedExpr SuchBind SuchExpr SuchNew SuchPart SuchItem SuchOperand SuchPair TypedBind TypedExpr TypedNew TypedPart TypedItem TypedOperand TypedPair (λ e. e.0) (λ e. e.0) (λ e. e.0) (λ e. e.0) (λ e. e.0) (λ e. e.0) (λ e. e.0) y)))
-  expr_layer (TypedExpr-F.Constant k) = puts_expr (TypedExpr-F.Constant k) _ _ (λ st. refl) refl (Simulates.constant_at site image r (is_cell k) k)
-  expr_layer (TypedExpr-F.Local x) = puts_expr (TypedExpr-F.Local x) _ _ (λ st. refl) refl (Simulates.load_at site image r x)
+  local_place : (z : TypedPlace-F TypedBind TypedExpr TypedNew TypedPart TypedPlace TypedItem TypedOperand TypedPair) (x : ℕ) → ((st : State) → E.place_step site (map-TypedPlace TypedBind TypedExpr TypedNew TypedPart TypedPlace TypedItem TypedOperand TypedPair Run Run Run Behind Where Run Behind (ℕ × Run) bind_run (E.value_of site) (E.new_of site) part_run (E.place_of site) item_run (E.operand_of site) (E.pair_of site) z) st ≡ Gives (LocalAt x) st) → Code.place_step (map-TypedPlace TypedBind TypedExpr TypedNew TypedPart TypedPlace TypedItem TypedOperand TypedPair Instrs Instrs Instrs Instrs (Option ℕ) Instrs Instrs (ℕ × Instrs) bind_code Code.expr_code Code.new_code part_code Code.place_slot item_code Code.operand_code Code.pair_code z) ≡ Some x → OfPlace (roll-TypedPlace z)
+  local_place z x q e =
+      subst (λ o. OfPlaces.IsPlace (E.place_of site (roll-TypedPlace z)) o) (sym (fold-roll-TypedPlace Instrs Instrs Instrs Instrs (Option ℕ) Instrs Instrs (ℕ × Instrs) Code.bind_step Code.expr_step Code.new_step Code.part_step Code.place_step Code.item_step Code.operand_step Code.pair_step z ∙ e))
+      (λ st. ap (λ g. g st) (fold-roll-TypedPlace Run Run Run Behind Where Run Behind (ℕ × Run) (E.bind_step site) (E.expr_step site) (E.new_step site) (E.part_step site) (E.place_step site) (E.item_step site) E.operand_step (E.pair_step site) z) ∙ q st)
+
+  lacks_place : (z : TypedPlace-F TypedBind TypedExpr TypedNew TypedPart TypedPlace TypedItem TypedOperand TypedPair) → ((st : State) → E.place_step site (map-TypedPlace TypedBind TypedExpr TypedNew TypedPart TypedPlace TypedItem TypedOperand TypedPair Run Run Run Behind Where Run Behind (ℕ × Run) bind_run (E.value_of site) (E.new_of site) part_run (E.place_of site) item_run (E.operand_of site) (E.pair_of site) z) st ≡ unbuilt st) → Code.place_step (map-TypedPlace TypedBind TypedExpr TypedNew TypedPart TypedPlace TypedItem TypedOperand TypedPair Instrs Instrs Instrs Instrs (Option ℕ) Instrs Instrs (ℕ × Instrs) bind_code Code.expr_code Code.new_code part_code Code.place_slot item_code Code.operand_code Code.pair_code z) ≡ None → OfPlace (roll-TypedPlace z)
+  lacks_place z q e =
+      subst (λ o. OfPlaces.IsPlace (E.place_of site (roll-TypedPlace z)) o) (sym (fold-roll-TypedPlace Instrs Instrs Instrs Instrs (Option ℕ) Instrs Instrs (ℕ × Instrs) Code.bind_step Code.expr_step Code.new_step Code.part_step Code.place_step Code.item_step Code.operand_step Code.pair_step z ∙ e))
+      (λ st. ap (λ g. g st) (fold-roll-TypedPlace Run Run Run Behind Where Run Behind (ℕ × Run) (E.bind_step site) (E.expr_step site) (E.new_step site) (E.part_step site) (E.place_step site) (E.item_step site) E.operand_step (E.pair_step site) z) ∙ q st)
+
+  expr_layer : (y : ExprLayer) → Puts (E.value_of site (expr_in y)) (Code.expr_code (expr_in y))
+  expr_layer (TypedExpr-F.Constant k) = puts_expr (TypedExpr-F.Constant k) _ _ (λ st. refl) refl (OfValues.constant_at site image r (is_cell k) k)
+  expr_layer (TypedExpr-F.TypedExpr::Local x) = puts_expr (TypedExpr-F.TypedExpr::Local x) _ _ (λ st. refl) refl (OfValues.load_at site image r x)
   expr_layer (TypedExpr-F.Chain p os) =
       puts_expr (TypedExpr-F.Chain p.0 (map (λ o. o.0) os)) _ _ (λ st. refl) refl
-      (Simulates.puts_then site image r (E.value_of site p.0) (E.chained (map (E.operand_of site) (map (λ o. o.0) os))) (Code.expr_code p.0) (Code.joined (map Code.operand_code (map (λ o. o.0) os))) p.1 (Simulates.chain_at site image r os))
+      (Simulates.puts_then site image r (E.value_of site p.0) (chained (map (E.operand_of site) (map (λ o. o.0) os))) (Code.expr_code p.0) (Codes.joined (map Code.operand_code (map (λ o. o.0) os))) p.1 (OfValues.chain_at site image r os))
   expr_layer (TypedExpr-F.Convert c p) =
       puts_expr (TypedExpr-F.Convert c p.0) _ _ (λ st. refl) refl
-      (Simulates.puts_then site image r (E.value_of site p.0) (E.converted c) (Code.expr_code p.0) (Code.conversion_code c) p.1 (Simulates.convert_at site image r c))
-  expr_layer (TypedExpr-F.Minus Number.Integer p) =
-      puts_expr (TypedExpr-F.Minus Number.Integer p.0) _ _ (λ st. refl) refl
-      (Simulates.puts_then site image r (E.value_of site p.0) (λ v st. E.calc (negative v) st) (Code.expr_code p.0) (I.Negate ∷ []) p.1 (Simulates.negate_at site image r))
-  expr_layer (TypedExpr-F.Minus Number.Long p) = lacks_expr (TypedExpr-F.Minus Number.Long p.0) (λ st. refl) refl
-  expr_layer (TypedExpr-F.Minus Number.Decimal p) = lacks_expr (TypedExpr-F.Minus Number.Decimal p.0) (λ st. refl) refl
+      (Simulates.puts_then site image r (E.value_of site p.0) (convert c) (Code.expr_code p.0) (V.conversion_code c) p.1 (OfValues.convert_at site image r c))
+  expr_layer (TypedExpr-F.Not p) =
+      puts_expr (TypedExpr-F.Not p.0) (λ st. bind (E.value_of site p.0 st) (λ v s. bind (truth_of v s) OfValues.other)) _ (λ st. bind_bind (E.value_of site p.0 st) truth_of OfValues.other) refl
+      (Simulates.puts_then site image r (E.value_of site p.0) (λ v s. bind (truth_of v s) OfValues.other) (Code.expr_code p.0) (I.Not ∷ []) p.1 (OfValues.not_at site image r))
+  expr_layer (TypedExpr-F.Minus n p) =
+      puts_expr (TypedExpr-F.Minus n p.0) _ _ (λ st. refl) refl
+      (Simulates.puts_then site image r (E.value_of site p.0) (λ v st. calc (negated n v) st) (Code.expr_code p.0) (I.Negate n ∷ []) p.1 (OfValues.negate_at site image r n))
+  expr_layer (TypedExpr-F.Assign p q) =
+      puts_expr (TypedExpr-F.Assign p.0 q.0) _ _ (λ st. refl) refl (OfPlaces.assign_at site image r (E.place_of site p.0) (Code.place_slot p.0) p.1 (E.value_of site q.0) (Code.expr_code q.0) q.1)
+  expr_layer (TypedExpr-F.AssignWith p how q) =
+      puts_expr (TypedExpr-F.AssignWith p.0 how q.0) _ _ (λ st. refl) refl
+      (OfPlaces.assign_with_at site image r (E.place_of site p.0) (Code.place_slot p.0) p.1 how (E.value_of site q.0) (Code.expr_code q.0) q.1)
+  expr_layer (TypedExpr-F.Step kind n p) =
+      puts_expr (TypedExpr-F.Step kind n p.0) _ _ (λ st. refl) refl (OfPlaces.step_at site image r (E.place_of site p.0) (Code.place_slot p.0) p.1 kind n)
   expr_layer (TypedExpr-F.New n) = puts_expr (TypedExpr-F.New n.0) (E.new_of site n.0) (Code.new_code n.0) (λ st. refl) refl n.1
   expr_layer (TypedExpr-F.Debug p) =
       puts_expr (TypedExpr-F.Debug p.0) _ _ (λ st. refl) refl
-      (Simulates.puts_then site image r (E.value_of site p.0) (E.say site) (Code.expr_code p.0) (I.Print ∷ []) p.1 (Simulates.print_at site image r))
-  expr_layer (TypedExpr-F.Query q []) = puts_expr (TypedExpr-F.Query q []) _ _ (λ st. refl) refl (Simulates.count_if_at site image r _ _ _)
+      (Simulates.puts_then site image r (E.value_of site p.0) (E.say site) (Code.expr_code p.0) (I.Print ∷ []) p.1 (OfValues.print_at site image r))
+  expr_layer (TypedExpr-F.Query q []) = puts_expr (TypedExpr-F.Query q []) _ _ (λ st. refl) refl (OfSaves.count_if_at site image r _ _ _)
   expr_layer (TypedExpr-F.Query q (b ∷ bs)) = lacks_expr (TypedExpr-F.Query q (b.0 ∷ map (λ x. x.0) bs)) (λ st. refl) refl
-  expr_layer (TypedExpr-F.Static c n) = lacks_expr (TypedExpr-F.Static c n) (λ st. refl) refl
+  expr_layer (TypedExpr-F.TypedExpr::Static c n) = lacks_expr (TypedExpr-F.TypedExpr::Static c n) (λ st. refl) refl
   expr_layer TypedExpr-F.This = lacks_expr TypedExpr-F.This (λ st. refl) refl
   expr_layer (TypedExpr-F.TriggerVariable v) = lacks_expr (TypedExpr-F.TriggerVariable v) (λ st. refl) refl
   expr_layer (TypedExpr-F.Postfix p ps) = lacks_expr (TypedExpr-F.Postfix p.0 (map (λ x. x.0) ps)) (λ st. refl) refl
-  expr_layer (TypedExpr-F.Not p) = lacks_expr (TypedExpr-F.Not p.0) (λ st. refl) refl
   expr_layer (TypedExpr-F.Conditional p q x) = lacks_expr (TypedExpr-F.Conditional p.0 q.0 x.0) (λ st. refl) refl
-  expr_layer (TypedExpr-F.Assign p q) = lacks_expr (TypedExpr-F.Assign p.0 q.0) (λ st. refl) refl
-  expr_layer (TypedExpr-F.AssignWith p a q) = lacks_expr (TypedExpr-F.AssignWith p.0 a q.0) (λ st. refl) refl
-  expr_layer (TypedExpr-F.Step kind n p) = lacks_expr (TypedExpr-F.Step kind n p.0) (λ st. refl) refl
   expr_layer (TypedExpr-F.Cast n p) = lacks_expr (TypedExpr-F.Cast n p.0) (λ st. refl) refl
   expr_layer (TypedExpr-F.CastException x p) = lacks_expr (TypedExpr-F.CastException x p.0) (λ st. refl) refl
   expr_layer (TypedExpr-F.CallStatic c n ps) = lacks_expr (TypedExpr-F.CallStatic c n (map (λ x. x.0) ps)) (λ st. refl) refl
   expr_layer (TypedExpr-F.CallBuiltin b ps) = lacks_expr (TypedExpr-F.CallBuiltin b (map (λ x. x.0) ps)) (λ st. refl) refl
 
-  new_layer : (y : TypedNew-F SuchBind SuchExpr SuchNew SuchPart SuchItem SuchOperand SuchPair) → Puts (E.new_of site (roll-TypedNew (map-TypedNew SuchBind SuchExpr SuchNew SuchPart SuchItem SuchOperand SuchPair TypedBind TypedExpr TypedNew TypedPart TypedItem TypedOperand TypedPair (λ e. e.0) (λ e. e.0) (λ e. e.0) (λ e. e.0) (λ e. e.0) (λ e. e.0) (λ e. e.0) y))) (Code.new_code (roll-TypedNew (map-TypedNew SuchBind SuchExpr SuchNew SuchPart SuchItem SuchOperand SuchPair TypedBind TypedExpr TypedNew TypedPart TypedItem TypedOperand TypedPair (λ e. e.0) (λ e. e.0) (λ e. e.0) (λ e. e.0) (λ e. e.0) (λ e. e.0) (λ e. e.0) y)))
-  new_layer (TypedNew-F.Record object ps) = puts_new (TypedNew-F.Record object (map (λ p. p.0) ps)) _ _ (λ st. refl) refl (Simulates.new_record_at site image r object ps)
-  new_layer (TypedNew-F.Collection Kind.List es) = puts_new (TypedNew-F.Collection Kind.List (map (λ e. e.0) es)) _ _ (λ st. refl) refl (Simulates.new_list_at site image r es)
+  new_layer : (y : NewLayer) → Puts (E.new_of site (new_in y)) (Code.new_code (new_in y))
+  new_layer (TypedNew-F.Record object ps) = puts_new (TypedNew-F.Record object (map (λ p. p.0) ps)) _ _ (λ st. refl) refl (OfThings.new_record_at site image r object ps)
+  new_layer (TypedNew-F.Collection Kind.List es) = puts_new (TypedNew-F.Collection Kind.List (map (λ e. e.0) es)) _ _ (λ st. refl) refl (OfThings.new_list_at site image r es)
   new_layer (TypedNew-F.Instance c k ps) = lacks_new (TypedNew-F.Instance c k (map (λ x. x.0) ps)) (λ st. refl) refl
   new_layer (TypedNew-F.Exception x ps) = lacks_new (TypedNew-F.Exception x (map (λ x. x.0) ps)) (λ st. refl) refl
   new_layer (TypedNew-F.Collection (Kind.Set k) ps) = lacks_new (TypedNew-F.Collection (Kind.Set k) (map (λ x. x.0) ps)) (λ st. refl) refl
@@ -175,153 +226,45 @@ module _ (site : Site) (image : Image) (r : Trail.Run) where
   new_layer (TypedNew-F.Copy k p) = lacks_new (TypedNew-F.Copy k p.0) (λ st. refl) refl
   new_layer (TypedNew-F.ById p) = lacks_new (TypedNew-F.ById p.0) (λ st. refl) refl
 
-  operand_layer : (y : TypedOperand-F SuchBind SuchExpr SuchNew SuchPart SuchItem SuchOperand SuchPair) → Takes (E.operand_of site (roll-TypedOperand (map-TypedOperand SuchBind SuchExpr SuchNew SuchPart SuchItem SuchOperand SuchPair TypedBind TypedExpr TypedNew TypedPart TypedItem TypedOperand TypedPair (λ e. e.0) (λ e. e.0) (λ e. e.0) (λ e. e.0) (λ e. e.0) (λ e. e.0) (λ e. e.0) y))) (Code.operand_code (roll-TypedOperand (map-TypedOperand SuchBind SuchExpr SuchNew SuchPart SuchItem SuchOperand SuchPair TypedBind TypedExpr TypedNew TypedPart TypedItem TypedOperand TypedPair (λ e. e.0) (λ e. e.0) (λ e. e.0) (λ e. e.0) (λ e. e.0) (λ e. e.0) (λ e. e.0) y)))
-  operand_layer y =
-      Simulates.takes_same site image r (E.operand_of site (roll-TypedOperand z)) (λ v st. bind (E.value_of site y.right.0 st) (λ x s. E.apply y.left y.op v x s)) (Code.operand_code (roll-TypedOperand z)) (Code.expr_code y.right.0 ++ Code.op_code y.left y.op)
-      (λ v st. ap (λ g. g v st) (fold-roll-TypedOperand Run Run Run Behind Run Behind (ℕ × Run) (E.bind_step site) (E.expr_step site) (E.new_step site) (E.part_step site) (E.item_step site) E.operand_step (E.pair_step site) z)) (fold-roll-TypedOperand Codes Codes Codes Codes Codes Codes (ℕ × Codes) Code.bind_step Code.expr_step Code.new_step Code.part_step Code.item_step Code.operand_step Code.pair_step z)
-      (Simulates.operand_at site image r y.left y.op (E.value_of site y.right.0) (Code.expr_code y.right.0) y.right.1) where
-        z : TypedOperand-F TypedBind TypedExpr TypedNew TypedPart TypedItem TypedOperand TypedPair
-        z = record { left = y.left; op = y.op; right = y.right.0 }
+  place_layer : (y : PlaceLayer) → OfPlace (place_in y)
+  place_layer (TypedPlace-F.TypedPlace::Local x) = local_place (TypedPlace-F.TypedPlace::Local x) x (λ st. refl) refl
+  place_layer (TypedPlace-F.TypedPlace::Static c n) = lacks_place (TypedPlace-F.TypedPlace::Static c n) (λ st. refl) refl
+  place_layer (TypedPlace-F.TypedPlace::Field p c n) = lacks_place (TypedPlace-F.TypedPlace::Field p.0 c n) (λ st. refl) refl
+  place_layer (TypedPlace-F.TypedPlace::Cell p o n) = lacks_place (TypedPlace-F.TypedPlace::Cell p.0 o n) (λ st. refl) refl
+  place_layer (TypedPlace-F.TypedPlace::Index p q) = lacks_place (TypedPlace-F.TypedPlace::Index p.0 q.0) (λ st. refl) refl
 
-  pair_layer : (y : TypedPair-F SuchBind SuchExpr SuchNew SuchPart SuchItem SuchOperand SuchPair) →
-      ((E.pair_of site (roll-TypedPair (map-TypedPair SuchBind SuchExpr SuchNew SuchPart SuchItem SuchOperand SuchPair TypedBind TypedExpr TypedNew TypedPart TypedItem TypedOperand TypedPair (λ e. e.0) (λ e. e.0) (λ e. e.0) (λ e. e.0) (λ e. e.0) (λ e. e.0) (λ e. e.0) y))).0 ≡ (Code.pair_code (roll-TypedPair (map-TypedPair SuchBind SuchExpr SuchNew SuchPart SuchItem SuchOperand SuchPair TypedBind TypedExpr TypedNew TypedPart TypedItem TypedOperand TypedPair (λ e. e.0) (λ e. e.0) (λ e. e.0) (λ e. e.0) (λ e. e.0) (λ e. e.0) (λ e. e.0) y))).0) ×
-      Puts (E.pair_of site (roll-TypedPair (map-TypedPair SuchBind SuchExpr SuchNew SuchPart SuchItem SuchOperand SuchPair TypedBind TypedExpr TypedNew TypedPart TypedItem TypedOperand TypedPair (λ e. e.0) (λ e. e.0) (λ e. e.0) (λ e. e.0) (λ e. e.0) (λ e. e.0) (λ e. e.0) y))).1 (Code.pair_code (roll-TypedPair (map-TypedPair SuchBind SuchExpr SuchNew SuchPart SuchItem SuchOperand SuchPair TypedBind TypedExpr TypedNew TypedPart TypedItem TypedOperand TypedPair (λ e. e.0) (λ e. e.0) (λ e. e.0) (λ e. e.0) (λ e. e.0) (λ e. e.0) (λ e. e.0) y))).1
+  operand_layer : (y : OperandLayer) → Takes (E.operand_of site (operand_in y)) (Code.operand_code (operand_in y))
+  operand_layer y =
+      Simulates.takes_same site image r (E.operand_of site (roll-TypedOperand z)) (operated y.left y.op y.right (E.value_of site y.value.0)) (Code.operand_code (roll-TypedOperand z)) (V.operated y.left y.op y.right (Code.expr_code y.value.0))
+      (λ v st. ap (λ g. g v st) (fold-roll-TypedOperand Run Run Run Behind Where Run Behind (ℕ × Run) (E.bind_step site) (E.expr_step site) (E.new_step site) (E.part_step site) (E.place_step site) (E.item_step site) E.operand_step (E.pair_step site) z)) (fold-roll-TypedOperand Instrs Instrs Instrs Instrs (Option ℕ) Instrs Instrs (ℕ × Instrs) Code.bind_step Code.expr_step Code.new_step Code.part_step Code.place_step Code.item_step Code.operand_step Code.pair_step z)
+      (OfValues.operand_at site image r y.left y.op y.right (E.value_of site y.value.0) (Code.expr_code y.value.0) y.value.1) where
+        z : TypedOperand-F TypedBind TypedExpr TypedNew TypedPart TypedPlace TypedItem TypedOperand TypedPair
+        z = record { left = y.left; op = y.op; right = y.right; value = y.value.0 }
+
+  pair_layer : (y : PairLayer) →
+      ((E.pair_of site (pair_in y)).0 ≡ (Code.pair_code (pair_in y)).0) ×
+      Puts (E.pair_of site (pair_in y)).1 (Code.pair_code (pair_in y)).1
   pair_layer y = (
     ap (λ p. p.0) runs ∙ sym (ap (λ p. p.0) codes),
     Simulates.puts_same site image r _ (E.value_of site y.value.0) _ (Code.expr_code y.value.0) (λ st. ap (λ p. p.1 st) runs) (ap (λ p. p.1) codes) y.value.1,
   ) where
-    z : TypedPair-F TypedBind TypedExpr TypedNew TypedPart TypedItem TypedOperand TypedPair
+    z : TypedPair-F TypedBind TypedExpr TypedNew TypedPart TypedPlace TypedItem TypedOperand TypedPair
     z = record { field = y.field; value = y.value.0 }
 
     runs : E.pair_of site (roll-TypedPair z) ≡ (y.field, E.value_of site y.value.0)
-    runs = fold-roll-TypedPair Run Run Run Behind Run Behind (ℕ × Run) (E.bind_step site) (E.expr_step site) (E.new_step site) (E.part_step site) (E.item_step site) E.operand_step (E.pair_step site) z
+    runs = fold-roll-TypedPair Run Run Run Behind Where Run Behind (ℕ × Run) (E.bind_step site) (E.expr_step site) (E.new_step site) (E.part_step site) (E.place_step site) (E.item_step site) E.operand_step (E.pair_step site) z
 
     codes : Code.pair_code (roll-TypedPair z) ≡ (y.field, Code.expr_code y.value.0)
-    codes = fold-roll-TypedPair Codes Codes Codes Codes Codes Codes (ℕ × Codes) Code.bind_step Code.expr_step Code.new_step Code.part_step Code.item_step Code.operand_step Code.pair_step z
+    codes = fold-roll-TypedPair Instrs Instrs Instrs Instrs (Option ℕ) Instrs Instrs (ℕ × Instrs) Code.bind_step Code.expr_step Code.new_step Code.part_step Code.place_step Code.item_step Code.operand_step Code.pair_step z
 
   pub expr_at : (e : TypedExpr) → OfExpr e
   expr_at =
-      ind-TypedExpr OfBind OfExpr OfNew OfPart OfItem OfOperand OfPair
+      ind-TypedExpr OfBind OfExpr OfNew OfPart OfPlace OfItem OfOperand OfPair
       (λ x y is. tt)
       (λ x y is. subst (λ z. OfExpr (roll-TypedExpr z)) is (expr_layer y))
       (λ x y is. subst (λ z. OfNew (roll-TypedNew z)) is (new_layer y))
       (λ x y is. tt)
+      (λ x y is. subst (λ z. OfPlace (roll-TypedPlace z)) is (place_layer y))
       (λ x y is. tt)
       (λ x y is. subst (λ z. OfOperand (roll-TypedOperand z)) is (operand_layer y))
       (λ x y is. subst (λ z. OfPair (roll-TypedPair z)) is (pair_layer y))
-
-  -- ---- statements
-
-  abbrev OfStmt : TypedStmt → Type 0
-  OfStmt s = Does (D.does site s) (Code.stmt_code s)
-
-  abbrev OfCatch : TypedCatch → Type 0
-  OfCatch c = Unit {0}
-
-  abbrev SuchStmt : Type 0
-  SuchStmt = (s : TypedStmt) × OfStmt s
-
-  abbrev SuchCatch : Type 0
-  SuchCatch = (c : TypedCatch) × OfCatch c
-
-  abbrev catch_run : TypedCatch → Do
-  catch_run = fold-TypedCatch Do Do (D.stmt_step site) (D.catch_step site)
-
-  abbrev catch_code : TypedCatch → Codes
-  catch_code = fold-TypedCatch Codes Codes Code.stmt_step Code.catch_step
-
-  does_same : (f g : Do) (is js : List Instr) → ((st : State) → f st ≡ g st) → is ≡ js → Does g js → Does f is
-  does_same f g is js q e h k temps st post =
-      Simulates.at_same site image r (is ++ k) (js ++ k) temps st (ap (λ c. c ++ k) e)
-      (h k temps st (subst (λ res. Simulates.Holds (λ u s. Simulates.At site image r k temps s) (Simulates.Stopped site image r) res) (q st) post))
-
-  does_stmt : (z : TypedStmt-F TypedStmt TypedCatch) (f : Do) (is : List Instr) → ((st : State) → D.stmt_step site (map-TypedStmt TypedStmt TypedCatch Do Do (D.does site) catch_run z) st ≡ f st) →
-      Code.stmt_step (map-TypedStmt TypedStmt TypedCatch Codes Codes Code.stmt_code catch_code z) ≡ is → Does f is → OfStmt (roll-TypedStmt z)
-  does_stmt z f is q e h =
-      does_same (D.does site (roll-TypedStmt z)) f (Code.stmt_code (roll-TypedStmt z)) is
-      (λ st. ap (λ g. g st) (fold-roll-TypedStmt Do Do (D.stmt_step site) (D.catch_step site) z) ∙ q st)
-      (fold-roll-TypedStmt Codes Codes Code.stmt_step Code.catch_step z ∙ e) h
-
-  lacks_stmt : (z : TypedStmt-F TypedStmt TypedCatch) → ((st : State) → D.stmt_step site (map-TypedStmt TypedStmt TypedCatch Do Do (D.does site) catch_run z) st ≡ unbuilt st) →
-      Code.stmt_step (map-TypedStmt TypedStmt TypedCatch Codes Codes Code.stmt_code catch_code z) ≡ Code.unbuilt → OfStmt (roll-TypedStmt z)
-  lacks_stmt z q e = does_stmt z (λ st. unbuilt st) Code.unbuilt q e (λ k temps st post. Simulates.unbuilt_at site image r k temps st post)
-
-  abbrev Stmts : Type 0
-  Stmts = List SuchStmt
-
-  all_do_at : (ss : Stmts) → Does (D.all_do (map (D.does site) (map (λ p. p.0) ss))) (Code.joined (map Code.stmt_code (map (λ p. p.0) ss)))
-  all_do_at [] k temps st post = post
-  all_do_at (s ∷ ss) k temps st post =
-      Simulates.again_at site image r (Code.stmt_code s.0) (Code.joined (map Code.stmt_code (map (λ p. p.0) ss))) k temps st
-      (s.1 (Code.joined (map Code.stmt_code (map (λ p. p.0) ss)) ++ k) temps st
-      (Simulates.weaken _ _ (Simulates.Stopped site image r) (D.does site s.0 st) (λ u s1 h. all_do_at ss k temps s1 h)
-      (Simulates.bound (λ u s1. Simulates.At site image r k temps s1) (Simulates.Stopped site image r) (D.does site s.0 st) (λ u s1. D.all_do (map (D.does site) (map (λ p. p.0) ss)) s1) post)))
-
-  local_at : (v : Option TypedExpr) → Puts (D.local_value site v) (Code.local_code v)
-  local_at None = Simulates.push_at site image r C.Null
-  local_at (Some e) = expr_at e
-
-  locals_at : (ls : List TypedLocal) → Does (D.declare_all site ls) (Code.locals_code ls)
-  locals_at [] k temps st post = post
-  locals_at (l ∷ ls) k temps st post =
-      Simulates.at_same site image r ((Code.local_code l.value ++ (I.Store l.slot ∷ Code.locals_code ls)) ++ k) (Code.local_code l.value ++ (I.Store l.slot ∷ (Code.locals_code ls ++ k))) temps st (append_assoc (Code.local_code l.value) (I.Store l.slot ∷ Code.locals_code ls) k)
-      (local_at l.value (I.Store l.slot ∷ (Code.locals_code ls ++ k)) temps st
-      (Simulates.weaken _ _ (Simulates.Stopped site image r) (D.local_value site l.value st)
-      (λ v s h. Simulates.store_at site image r l.slot v (Code.locals_code ls ++ k) temps s (locals_at ls k temps (set_local l.slot v s) h))
-      (Simulates.bound (λ u s. Simulates.At site image r k temps s) (Simulates.Stopped site image r) (D.local_value site l.value st) (λ v s. D.declare_all site ls (set_local l.slot v s)) post)))
-
-  -- a step, and then the rest of a statement
-  step_then : (f : Do) (is : List Instr) → Does f is → Does (λ st. bind (charge Steps 1 st) (λ u s. f s)) (I.Step ∷ is)
-  step_then f is h k temps st post =
-      Simulates.step_at site image r (is ++ k) temps st
-      (Simulates.weaken _ _ (Simulates.Stopped site image r) (charge Steps 1 st) (λ u s g. h k temps s g)
-      (Simulates.bound (λ u s. Simulates.At site image r k temps s) (Simulates.Stopped site image r) (charge Steps 1 st) (λ u s. f s) post))
-
-  -- a value, and then what is done with it
-  value_then : (e : TypedExpr) (f : Value → Do) (i : Instr) →
-      ((v : Value) (k : List Instr) (temps : List Value) (st : State) → Simulates.Holds (λ u s. Simulates.At site image r k temps s) (Simulates.Stopped site image r) (f v st) → Simulates.At site image r (i ∷ k) (v ∷ temps) st) →
-      Does (λ st. bind (E.value_of site e st) f) (Code.expr_code e ++ i ∷ [])
-  value_then e f i h k temps st post =
-      Simulates.again_at site image r (Code.expr_code e) (i ∷ []) k temps st
-      (expr_at e (i ∷ k) temps st
-      (Simulates.weaken _ _ (Simulates.Stopped site image r) (E.value_of site e st) (λ v s g. h v k temps s g)
-      (Simulates.bound (λ u s. Simulates.At site image r k temps s) (Simulates.Stopped site image r) (E.value_of site e st) f post)))
-
-  stmt_layer : (y : TypedStmt-F SuchStmt SuchCatch) → OfStmt (roll-TypedStmt (map-TypedStmt SuchStmt SuchCatch TypedStmt TypedCatch (λ e. e.0) (λ e. e.0) y))
-  stmt_layer (TypedStmt-F.Block ss) = does_stmt (TypedStmt-F.Block (map (λ p. p.0) ss)) _ _ (λ st. refl) refl (all_do_at ss)
-  stmt_layer (TypedStmt-F.Declare ls) = does_stmt (TypedStmt-F.Declare ls) _ _ (λ st. refl) refl (step_then (D.declare_all site ls) (Code.locals_code ls) (locals_at ls))
-  stmt_layer (TypedStmt-F.Expr e) =
-      does_stmt (TypedStmt-F.Expr e) _ _ (λ st. refl) refl
-      (step_then (λ s. bind (E.value_of site e s) (λ v s1. Gives tt s1)) (Code.expr_code e ++ I.Pop ∷ []) (value_then e (λ v s1. Gives tt s1) I.Pop (λ v k temps st h. Simulates.pop_at site image r v k temps st h)))
-  stmt_layer (TypedStmt-F.Dml Dml.Insert saved e) =
-      does_stmt (TypedStmt-F.Dml Dml.Insert saved e) _ _ (λ st. refl) refl
-      (step_then (λ s. bind (E.value_of site e s) (λ v s1. D.insert_these site (D.records_of saved v s1.world.heap) s1)) (Code.expr_code e ++ I.Insert saved ∷ [])
-      (value_then e (λ v s1. D.insert_these site (D.records_of saved v s1.world.heap) s1) (I.Insert saved) (λ v k temps st h. Simulates.insert_at site image r saved v k temps st h)))
-  stmt_layer (TypedStmt-F.Dml Dml.Update saved e) = lacks_stmt (TypedStmt-F.Dml Dml.Update saved e) (λ st. refl) refl
-  stmt_layer (TypedStmt-F.Dml Dml.Delete saved e) = lacks_stmt (TypedStmt-F.Dml Dml.Delete saved e) (λ st. refl) refl
-  stmt_layer (TypedStmt-F.Dml Dml.Upsert saved e) = lacks_stmt (TypedStmt-F.Dml Dml.Upsert saved e) (λ st. refl) refl
-  stmt_layer (TypedStmt-F.If e p None) = lacks_stmt (TypedStmt-F.If e p.0 None) (λ st. refl) refl
-  stmt_layer (TypedStmt-F.If e p (Some q)) = lacks_stmt (TypedStmt-F.If e p.0 (Some q.0)) (λ st. refl) refl
-  stmt_layer (TypedStmt-F.While e p) = lacks_stmt (TypedStmt-F.While e p.0) (λ st. refl) refl
-  stmt_layer (TypedStmt-F.Do p e) = lacks_stmt (TypedStmt-F.Do p.0 e) (λ st. refl) refl
-  stmt_layer (TypedStmt-F.For start c n p) = lacks_stmt (TypedStmt-F.For start c n p.0) (λ st. refl) refl
-  stmt_layer (TypedStmt-F.ForEach x c e p) = lacks_stmt (TypedStmt-F.ForEach x c e p.0) (λ st. refl) refl
-  stmt_layer (TypedStmt-F.Return e) = lacks_stmt (TypedStmt-F.Return e) (λ st. refl) refl
-  stmt_layer TypedStmt-F.Break = lacks_stmt TypedStmt-F.Break (λ st. refl) refl
-  stmt_layer TypedStmt-F.Continue = lacks_stmt TypedStmt-F.Continue (λ st. refl) refl
-  stmt_layer (TypedStmt-F.Throw e) = lacks_stmt (TypedStmt-F.Throw e) (λ st. refl) refl
-  stmt_layer (TypedStmt-F.Try ss cs None) = lacks_stmt (TypedStmt-F.Try (map (λ p. p.0) ss) (map (λ p. p.0) cs) None) (λ st. refl) refl
-  stmt_layer (TypedStmt-F.Try ss cs (Some fs)) = lacks_stmt (TypedStmt-F.Try (map (λ p. p.0) ss) (map (λ p. p.0) cs) (Some (map (λ p. p.0) fs))) (λ st. refl) refl
-  stmt_layer (TypedStmt-F.Construct c k es) = lacks_stmt (TypedStmt-F.Construct c k es) (λ st. refl) refl
-  stmt_layer (TypedStmt-F.ConstructException es) = lacks_stmt (TypedStmt-F.ConstructException es) (λ st. refl) refl
-
-  pub stmt_at : (s : TypedStmt) → OfStmt s
-  stmt_at = ind-TypedStmt OfStmt OfCatch (λ x y is. subst (λ z. OfStmt (roll-TypedStmt z)) is (stmt_layer y)) (λ x y is. tt)
-
-  pub stmts_at : (ss : List TypedStmt) → Does (D.does_all site ss) (Code.block_code ss)
-  stmts_at [] k temps st post = post
-  stmts_at (s ∷ ss) k temps st post =
-      Simulates.again_at site image r (Code.stmt_code s) (Code.block_code ss) k temps st
-      (stmt_at s (Code.block_code ss ++ k) temps st
-      (Simulates.weaken _ _ (Simulates.Stopped site image r) (D.does site s st) (λ u s1 h. stmts_at ss k temps s1 h)
-      (Simulates.bound (λ u s1. Simulates.At site image r k temps s1) (Simulates.Stopped site image r) (D.does site s st) (λ u s1. D.does_all site ss s1) post)))

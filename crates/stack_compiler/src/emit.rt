@@ -1,114 +1,23 @@
 // The instructions of expressions.
 
-ghost use Rattle.std.specs.Prelude.{◌≡◌, true, [], ◌∷◌, ◌++◌, map, OnOk, IfOk};
-ghost use Rattle.apex_meaning.specs.Values.{is_cell};
+ghost use Rattle.std.specs.Prelude.{◌≡◌, [], ◌∷◌, ◌++◌, map, Some, OnOk};
+ghost use Rattle.stack_compiler.specs.Codes.{joined};
+ghost use Rattle.stack_compiler.specs.Things.{pairs_code};
 ghost use Rattle.stack_compiler.specs.Code as spec;
+ghost use Rattle.stack_compiler.specs.Places as places;
 
-use crate::constants::cell_of;
-use apex_list::{Boxed, Items};
+use crate::places::slot_of;
+use crate::put::put;
+use crate::queries::emit_query;
+use crate::things::fields_of;
+use crate::values::{emit_change, emit_constant, emit_conversion};
 use apex_num::NoMemory;
-use apex_rows::{Cond, Query};
-use row_conditions::local_part;
-use stack_code::{Counting, Instr};
+use stack_code::Instr;
 use std::alloc::Global;
 use typed_program::{
-    CollectionKind, Constant, Conversion, Number, TypedBind, TypedExpr, TypedNew, TypedOp,
-    TypedOperand, TypedPair,
+    Assignment, CollectionKind, Number, StepKind, TypedExpr, TypedNew, TypedOp, TypedOperand,
+    TypedPair,
 };
-
-/// One instruction more.
-pub fn put(code: &mut Vec<Instr>, instr: Instr) -> Result<(), NoMemory>
-    ensures { OnOk result (code.new.items ≡ code.old.items ++ instr ∷ []) }
-{
-    code.push(instr)?;
-    Ok(())
-}
-
-fn emit_constant(code: &mut Vec<Instr>, alloc: Global, constant: &Constant) -> Result<(), NoMemory>
-    ensures { OnOk result (code.new.items ≡ code.old.items ++ spec.constant_code (is_cell constant.now) constant.now) }
-{
-    match cell_of(alloc, constant)? {
-        Some(cell) => put(code, Instr::Push(cell)),
-        None => put(code, Instr::Unbuilt),
-    }
-}
-
-fn emit_conversion(code: &mut Vec<Instr>, conversion: Conversion) -> Result<(), NoMemory>
-    ensures { OnOk result (code.new.items ≡ code.old.items ++ spec.conversion_code conversion) }
-{
-    match conversion {
-        Conversion::Same => Ok(()),
-        Conversion::ToLong
-        | Conversion::ToDecimal
-        | Conversion::ToId
-        | Conversion::ToText
-        | Conversion::ToRecord => put(code, Instr::Unbuilt),
-    }
-}
-
-fn emit_same_op(code: &mut Vec<Instr>, op: TypedOp) -> Result<(), NoMemory>
-    ensures { OnOk result (code.new.items ≡ code.old.items ++ spec.op_code Conversion.Same op) }
-{
-    match op {
-        TypedOp::Arithmetic(a, Number::Integer) => put(code, Instr::Calc(a)),
-        TypedOp::Arithmetic(_, Number::Long)
-        | TypedOp::Arithmetic(_, Number::Decimal)
-        | TypedOp::Join
-        | TypedOp::Equal
-        | TypedOp::Differs
-        | TypedOp::Order(_)
-        | TypedOp::And
-        | TypedOp::Or => put(code, Instr::Unbuilt),
-    }
-}
-
-fn emit_op(code: &mut Vec<Instr>, left: Conversion, op: TypedOp) -> Result<(), NoMemory>
-    ensures { OnOk result (code.new.items ≡ code.old.items ++ spec.op_code left op) }
-{
-    match left {
-        Conversion::Same => emit_same_op(code, op),
-        Conversion::ToLong
-        | Conversion::ToDecimal
-        | Conversion::ToId
-        | Conversion::ToText
-        | Conversion::ToRecord => put(code, Instr::Unbuilt),
-    }
-}
-
-fn emit_count(
-    code: &mut Vec<Instr>,
-    alloc: Global,
-    object: usize,
-    cond: &Cond,
-) -> Result<(), NoMemory>
-    ensures { OnOk result (code.new.items ≡ code.old.items ++ spec.count_if true object cond.now) }
-{
-    let counting = Counting {
-        object,
-        cond: cond.copy()?,
-        asked: Cond::All(local_part(alloc, cond)?),
-    };
-    put(code, Instr::Count(Boxed::new(alloc, counting)?))
-}
-
-fn emit_query(
-    code: &mut Vec<Instr>,
-    alloc: Global,
-    query: &Query,
-    binds: &[TypedBind],
-) -> Result<(), NoMemory>
-    ensures { OnOk result (code.new.items ≡ code.old.items ++ spec.query_with query.now binds.now) }
-{
-    let is_plain = query.counted
-        && !query.locked
-        && query.limit.is_none()
-        && query.offset.is_none();
-    if is_plain && binds.is_empty() {
-        emit_count(code, alloc, query.object, &query.cond)
-    } else {
-        put(code, Instr::Unbuilt)
-    }
-}
 
 /// The instructions of an expression.
 #[cycle(emit)]
@@ -126,9 +35,22 @@ pub fn emit_expr(code: &mut Vec<Instr>, alloc: Global, expr: &TypedExpr) -> Resu
             emit_expr(code, alloc, inner.get())?;
             emit_conversion(code, *conversion)
         }
-        TypedExpr::Minus(Number::Integer, inner) => {
+        TypedExpr::Not(inner) => {
             emit_expr(code, alloc, inner.get())?;
-            put(code, Instr::Negate)
+            put(code, Instr::Not)
+        }
+        TypedExpr::Minus(number, inner) => {
+            emit_expr(code, alloc, inner.get())?;
+            put(code, Instr::Negate(*number))
+        }
+        TypedExpr::Assign(place, value) => {
+            emit_assign(code, alloc, slot_of(place.get()), value.get())
+        }
+        TypedExpr::AssignWith(place, how, value) => {
+            emit_assign_with(code, alloc, slot_of(place.get()), *how, value.get())
+        }
+        TypedExpr::Step(kind, number, place) => {
+            emit_step(code, slot_of(place.get()), *kind, *number)
         }
         TypedExpr::New(new) => emit_new(code, alloc, new.get()),
         TypedExpr::Debug(inner) => {
@@ -136,17 +58,11 @@ pub fn emit_expr(code: &mut Vec<Instr>, alloc: Global, expr: &TypedExpr) -> Resu
             put(code, Instr::Print)
         }
         TypedExpr::Query(query, binds) => emit_query(code, alloc, query.get(), binds.as_slice()),
-        TypedExpr::Minus(Number::Long, _)
-        | TypedExpr::Minus(Number::Decimal, _)
-        | TypedExpr::Static(_, _)
+        TypedExpr::Static(_, _)
         | TypedExpr::This
         | TypedExpr::TriggerVariable(_)
         | TypedExpr::Postfix(_, _)
-        | TypedExpr::Not(_)
         | TypedExpr::Conditional(_, _, _)
-        | TypedExpr::Assign(_, _)
-        | TypedExpr::AssignWith(_, _, _)
-        | TypedExpr::Step(_, _, _)
         | TypedExpr::Cast(_, _)
         | TypedExpr::CastException(_, _)
         | TypedExpr::CallStatic(_, _, _)
@@ -162,8 +78,93 @@ fn emit_operand(
 ) -> Result<(), NoMemory>
     ensures { OnOk result (code.new.items ≡ code.old.items ++ spec.operand_code operand.now) }
 {
-    emit_expr(code, alloc, operand.right.get())?;
-    emit_op(code, operand.left, operand.op)
+    match operand.op {
+        TypedOp::And | TypedOp::Or => put(code, Instr::Unbuilt),
+        TypedOp::Arithmetic(_, _)
+        | TypedOp::Join
+        | TypedOp::Equal
+        | TypedOp::Differs
+        | TypedOp::Order(_) => emit_with(
+            code,
+            alloc,
+            operand.value.get(),
+            Instr::Calc(operand.left, operand.op, operand.right),
+        ),
+    }
+}
+
+// A value and what is done with it.
+#[cycle(emit)]
+fn emit_with(
+    code: &mut Vec<Instr>,
+    alloc: Global,
+    expr: &TypedExpr,
+    then: Instr,
+) -> Result<(), NoMemory>
+    ensures { OnOk result (code.new.items ≡ code.old.items ++ (spec.expr_code expr.now ++ then ∷ [])) }
+{
+    emit_expr(code, alloc, expr)?;
+    put(code, then)
+}
+
+#[cycle(emit)]
+fn emit_assign(
+    code: &mut Vec<Instr>,
+    alloc: Global,
+    slot: Option<usize>,
+    value: &TypedExpr,
+) -> Result<(), NoMemory>
+    ensures { OnOk result (code.new.items ≡ code.old.items ++ places.assign_code slot (spec.expr_code value.now)) }
+{
+    match slot {
+        None => put(code, Instr::Unbuilt),
+        Some(slot) => emit_with(code, alloc, value, Instr::Keep(slot)),
+    }
+}
+
+#[cycle(emit)]
+fn emit_both(
+    code: &mut Vec<Instr>,
+    alloc: Global,
+    slot: usize,
+    how: Assignment,
+    value: &TypedExpr,
+) -> Result<(), NoMemory>
+    ensures { OnOk result (code.new.items ≡ code.old.items ++ places.assign_with_code (Some slot) how (spec.expr_code value.now)) }
+{
+    put(code, Instr::Load(slot))?;
+    emit_expr(code, alloc, value)?;
+    emit_change(code, how, slot)
+}
+
+#[cycle(emit)]
+fn emit_assign_with(
+    code: &mut Vec<Instr>,
+    alloc: Global,
+    slot: Option<usize>,
+    how: Assignment,
+    value: &TypedExpr,
+) -> Result<(), NoMemory>
+    ensures { OnOk result (code.new.items ≡ code.old.items ++ places.assign_with_code slot how (spec.expr_code value.now)) }
+{
+    match slot {
+        None => put(code, Instr::Unbuilt),
+        Some(slot) => emit_both(code, alloc, slot, how, value),
+    }
+}
+
+fn emit_step(
+    code: &mut Vec<Instr>,
+    slot: Option<usize>,
+    kind: StepKind,
+    number: Number,
+) -> Result<(), NoMemory>
+    ensures { OnOk result (code.new.items ≡ code.old.items ++ places.step_code slot kind number) }
+{
+    match slot {
+        None => put(code, Instr::Unbuilt),
+        Some(slot) => put(code, Instr::Change(kind, number, slot)),
+    }
 }
 
 #[cycle(emit)]
@@ -172,7 +173,7 @@ fn emit_operands(
     alloc: Global,
     operands: &[TypedOperand],
 ) -> Result<(), NoMemory>
-    ensures { OnOk result (code.new.items ≡ code.old.items ++ spec.joined (map spec.operand_code operands.now)) }
+    ensures { OnOk result (code.new.items ≡ code.old.items ++ joined (map spec.operand_code operands.now)) }
 {
     for operand in operands {
         emit_operand(code, alloc, operand)?;
@@ -182,7 +183,7 @@ fn emit_operands(
 
 #[cycle(emit)]
 fn emit_exprs(code: &mut Vec<Instr>, alloc: Global, exprs: &[TypedExpr]) -> Result<(), NoMemory>
-    ensures { OnOk result (code.new.items ≡ code.old.items ++ spec.joined (map spec.expr_code exprs.now)) }
+    ensures { OnOk result (code.new.items ≡ code.old.items ++ joined (map spec.expr_code exprs.now)) }
 {
     for expr in exprs {
         emit_expr(code, alloc, expr)?;
@@ -192,7 +193,7 @@ fn emit_exprs(code: &mut Vec<Instr>, alloc: Global, exprs: &[TypedExpr]) -> Resu
 
 #[cycle(emit)]
 fn emit_pairs(code: &mut Vec<Instr>, alloc: Global, pairs: &[TypedPair]) -> Result<(), NoMemory>
-    ensures { OnOk result (code.new.items ≡ code.old.items ++ spec.pairs_code (map spec.pair_code pairs.now)) }
+    ensures { OnOk result (code.new.items ≡ code.old.items ++ pairs_code (map spec.pair_code pairs.now)) }
 {
     for pair in pairs {
         emit_pair(code, alloc, pair)?;
@@ -205,22 +206,6 @@ fn emit_pair(code: &mut Vec<Instr>, alloc: Global, pair: &TypedPair) -> Result<(
     ensures { OnOk result (code.new.items ≡ code.old.items ++ (spec.pair_code pair.now).1) }
 {
     emit_expr(code, alloc, pair.value.get())
-}
-
-fn field_of(pair: &TypedPair) -> usize
-    ensures { result ≡ (spec.pair_code pair.now).0 }
-{
-    pair.field
-}
-
-fn fields_of(alloc: Global, pairs: &[TypedPair]) -> Result<Items<usize>, NoMemory>
-    ensures { IfOk result (λ fields. fields ≡ spec.fields_of (map spec.pair_code pairs.now)) }
-{
-    let mut fields = Items::new(alloc);
-    for pair in pairs {
-        fields.push(field_of(pair))?;
-    }
-    Ok(fields)
 }
 
 #[cycle(emit)]

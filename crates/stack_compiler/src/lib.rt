@@ -4,7 +4,12 @@
 mod constants;
 mod emit;
 mod laws;
+mod places;
+mod put;
+mod queries;
 mod stmts;
+mod things;
+mod values;
 
 pub use laws::laws_of_code;
 pub use stmts::compile;

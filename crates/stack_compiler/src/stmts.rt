@@ -1,10 +1,12 @@
 // The instructions of statements.
 
 ghost use Rattle.std.specs.Prelude.{◌≡◌, [], ◌∷◌, ◌++◌, map, OnOk, IfOk};
+ghost use Rattle.stack_compiler.specs.Codes.{joined};
 ghost use Rattle.stack_compiler.specs.Code as spec;
 ghost use Rattle.stack_compiler.specs.Means.{Means};
 
-use crate::emit::{emit_expr, put};
+use crate::emit::emit_expr;
+use crate::put::put;
 use apex_list::{Boxed, Items};
 use apex_num::{Cell, NoMemory};
 use apex_syntax::DmlOp;
@@ -79,15 +81,13 @@ fn emit_stmt(code: &mut Vec<Instr>, alloc: Global, stmt: &TypedStmt) -> Result<(
         | TypedStmt::Break
         | TypedStmt::Continue
         | TypedStmt::Throw(_)
-        | TypedStmt::Try(_, _, _)
-        | TypedStmt::Construct(_, _, _)
-        | TypedStmt::ConstructException(_) => put(code, Instr::Unbuilt),
+        | TypedStmt::Try(_, _, _) => put(code, Instr::Unbuilt),
     }
 }
 
 #[cycle(emit_stmt)]
 fn emit_stmts(code: &mut Vec<Instr>, alloc: Global, stmts: &[TypedStmt]) -> Result<(), NoMemory>
-    ensures { OnOk result (code.new.items ≡ code.old.items ++ spec.joined (map spec.stmt_code stmts.now)) }
+    ensures { OnOk result (code.new.items ≡ code.old.items ++ joined (map spec.stmt_code stmts.now)) }
 {
     for stmt in stmts {
         emit_stmt(code, alloc, stmt)?;

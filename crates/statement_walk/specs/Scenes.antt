@@ -1,11 +1,10 @@
 -- Where statements stand (docs/language.md, "Statements in code").
-use Rattle.std.specs.Prelude.{◌≡◌, ℕ, ◌&&◌, Bool, true, false, List, Result, Ok, Err}
+use Rattle.std.specs.Prelude.{◌≡◌, ℕ, List, Result, Ok, Err}
 use Rattle.class_tables.specs.declared.member.ResultHead.{ResultHead}
 use Rattle.expression_walk.specs.Views.{Sight}
 use Rattle.method_calls.specs.MethodNamings.{Namings, namings}
 use Rattle.name_meanings.specs.Settings.{Around, around}
 use Rattle.statement_walk.specs.declared.view.BodyView.{BodyView}
-use Rattle.statement_walk.specs.declared.view.Inside.{Inside}
 use Rattle.static_types.specs.declared.kind.ValueType.{ValueType}
 use Rattle.type_names.specs.declared.fault.WalkFault.{WalkFault}
 use Rattle.type_names.specs.Walks.{Walk, Gives, Fails}
@@ -24,18 +23,6 @@ scene v = record { around = around v.setting.now; methods = namings v.methods.no
 
 abbrev pub sight_in : Scene → Locals → Sight
 sight_in s locals = record { around = s.around; methods = s.methods; locals = locals }
-
--- in a statement of it
-abbrev pub nested : Inside → Inside
-nested inside = record { in_loop = inside.in_loop; first = false }
-
--- in what a loop repeats
-abbrev pub repeated : Inside
-repeated = record { in_loop = true; first = false }
-
--- behind a statement, or a `;`
-abbrev pub behind : Bool → Inside → Inside
-behind empty inside = record { in_loop = inside.in_loop; first = inside.first && empty }
 
 -- what calls answer that change the locals in scope
 abbrev pub Threads : {A : Type 0} → Walk (A × Locals) → Result A WalkFault → Locals → Type 0

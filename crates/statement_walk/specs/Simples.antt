@@ -1,5 +1,5 @@
 -- Statements without statements in them (docs/language.md, "Statements in code").
-use Rattle.std.specs.Prelude.{ℕ, cond, List, [], ◌∷◌, ◌++◌, length, map, Option, None, Some}
+use Rattle.std.specs.Prelude.{ℕ, Bool, cond, List, [], ◌∷◌, ◌++◌, length, map, Option, None, Some}
 use Rattle.fault_words.specs.declared.fault.FaultWord.TheVariants.{MisplacedJump}
 use Rattle.apex_syntax.specs.declared.expr.Expr.{Expr}
 use Rattle.apex_syntax.specs.declared.expr.TypeTree.{TypeTree}
@@ -13,7 +13,6 @@ use Rattle.statement_walk.specs.Flows.{read, returned}
 use Rattle.local_scopes.specs.Locals.{Nothing as Done, fresh, local}
 use Rattle.statement_walk.specs.Saves.{saved}
 use Rattle.statement_walk.specs.Scenes.{Locals, Scene, sight_in}
-use Rattle.statement_walk.specs.declared.view.Inside.{Inside}
 use Rattle.static_types.specs.declared.kind.ValueType.{ValueType}
 use Rattle.static_types.specs.declared.kind.ValueType.TheVariants as V
 use Rattle.type_names.specs.TypeTrees.{type_of}
@@ -24,6 +23,7 @@ use Rattle.typed_program.specs.declared.stmt.TypedStart.TheVariants as S
 use Rattle.typed_program.specs.declared.stmt.TypedStmt.{TypedStmt}
 use Rattle.typed_program.specs.declared.stmt.TypedStmt.TheVariants as T
 use Rattle.typed_program.specs.declared.expr.TypedExpr.{TypedExpr}
+use Rattle.typed_program.specs.declared.unit.ParentCall.{ParentCall}
 use Rattle.typed_values.specs.declared.typed.Typed.{Typed}
 use Rattle.typed_values.specs.Fits.{condition, fitted, stored}
 
@@ -89,24 +89,20 @@ started s (F.Expr x) locals = onward (read_in s locals x) (λ tree. Gives (S.Exp
 
 -- ---- what stands in some places alone
 
-abbrev pub in_loop : Inside → ℕ → Walk Done
-in_loop inside at = cond inside.in_loop (Gives tt) (wrong MisplacedJump at)
+abbrev pub looping : Bool → ℕ → Walk Done
+looping in_loop at = cond in_loop (Gives tt) (wrong MisplacedJump at)
 
-abbrev pub jump : Inside → ℕ → TypedStmt → Walk TypedStmt
-jump inside at tree = onward (in_loop inside at) (λ _. Gives tree)
+abbrev pub jump : Bool → ℕ → TypedStmt → Walk TypedStmt
+jump in_loop at tree = onward (looping in_loop at) (λ _. Gives tree)
 
--- constructors call others in front of all their statements
-abbrev pub placed : Inside → ℕ → Walk Done
-placed inside at = cond inside.first (Gives tt) (wrong MisplacedJump at)
+-- ---- constructors that are called in front of the statements of others
 
-abbrev pub called_own : Scene → Locals → Inside → ℕ → List Expr → Walk TypedStmt
-called_own s locals inside at args =
-    onward (placed inside at) (λ _.
+abbrev pub called_own : Scene → Locals → ℕ → List Expr → Walk ParentCall
+called_own s locals at args =
     onward (own_constructor s.around at (length args)) (λ how.
-    onward (arguments_in s locals args) (constructed s.around how at)))
+    onward (arguments_in s locals args) (constructed s.around how at))
 
-abbrev pub called_parent : Scene → Locals → Inside → ℕ → List Expr → Walk TypedStmt
-called_parent s locals inside at args =
-    onward (placed inside at) (λ _.
+abbrev pub called_parent : Scene → Locals → ℕ → List Expr → Walk ParentCall
+called_parent s locals at args =
     onward (parent_constructor s.around at (length args)) (λ how.
-    onward (arguments_in s locals args) (constructed s.around how at)))
+    onward (arguments_in s locals args) (constructed s.around how at))

@@ -1,6 +1,7 @@
 -- The walk over statements: what one comes to by what those in it come to, beside the locals that are in scope before
 -- and behind it, or its first fault (docs/language.md, "Statements in code").
-use Rattle.std.specs.Prelude.{Bool, true, false, List, [], ◌∷◌, ◌++◌, length, take, Option, None, Some}
+use Rattle.std.specs.Prelude.{Bool, true, List, [], ◌∷◌, ◌++◌, length, take, Option, None, Some}
+use Rattle.fault_words.specs.declared.fault.FaultWord.TheVariants.{MisplacedJump}
 use Rattle.apex_syntax.specs.declared.expr.Expr.{Expr}
 use Rattle.apex_syntax.specs.declared.expr.TypeTree.{TypeTree}
 use Rattle.apex_syntax.specs.declared.stmt.Body.{Body}
@@ -12,12 +13,11 @@ use Rattle.apex_syntax.specs.declared.stmt.Stmt.TheFolds.{fold-Stmt, fold-Body, 
 use Rattle.apex_syntax.specs.declared.word.Word.{Word}
 use Rattle.statement_walk.specs.Flows.{caught, each}
 use Rattle.local_scopes.specs.Locals.{fresh, local}
-use Rattle.statement_walk.specs.Scenes.{Locals, Scene, nested, repeated, behind}
-use Rattle.statement_walk.specs.Simples.{value_in, tested, tested_where, read_in, read_where, declaration, started, answered, thrown, dml, called_own, called_parent, jump}
-use Rattle.statement_walk.specs.declared.view.Inside.{Inside}
+use Rattle.statement_walk.specs.Scenes.{Locals, Scene}
+use Rattle.statement_walk.specs.Simples.{value_in, tested, tested_where, read_in, read_where, declaration, started, answered, thrown, dml, jump}
 use Rattle.static_types.specs.declared.kind.ValueType.{ValueType}
 use Rattle.type_names.specs.TypeTrees.{type_of}
-use Rattle.type_names.specs.Walks.{Walk, Gives, onward}
+use Rattle.type_names.specs.Walks.{Walk, Gives, wrong, onward}
 use Rattle.typed_program.specs.declared.stmt.TypedCatch.{TypedCatch}
 use Rattle.typed_program.specs.declared.stmt.TypedStmt.{TypedStmt}
 use Rattle.typed_program.specs.declared.stmt.TypedStmt.TheVariants as T
@@ -30,16 +30,15 @@ use Rattle.typed_program.specs.declared.expr.TypedExpr.{TypedExpr}
 abbrev pub Amid : Type 0 → Type 0
 Amid A = Locals → Walk (A × Locals)
 
--- whether it is a `;`, and what it comes to
-pub record StmtWalk : Type 0 where
-  pub empty : Bool
-  pub walk : Inside → Amid TypedStmt
+-- where it stands in a loop or in none
+abbrev pub StmtWalk : Type 0
+StmtWalk = Bool → Amid TypedStmt
 
 abbrev pub BodyWalk : Type 0
-BodyWalk = Inside → Amid (List TypedStmt)
+BodyWalk = Bool → Amid (List TypedStmt)
 
 abbrev pub CatchWalk : Type 0
-CatchWalk = Inside → Amid TypedCatch
+CatchWalk = Bool → Amid TypedCatch
 
 -- ---- scopes
 
@@ -56,21 +55,21 @@ scoped_with w kind go locals = onward (go (locals ++ local w kind ∷ [])) (ende
 
 -- ---- several statements, from first to last
 
-abbrev pub stmts_from : List StmtWalk → Inside → List TypedStmt → Amid (List TypedStmt)
-stmts_from [] inside done locals = Gives (done, locals)
-stmts_from (s ∷ ss) inside done locals = onward (s.walk inside locals) (λ r. stmts_from ss (behind s.empty inside) (done ++ r.0 ∷ []) r.1)
+abbrev pub stmts_from : List StmtWalk → Bool → List TypedStmt → Amid (List TypedStmt)
+stmts_from [] in_loop done locals = Gives (done, locals)
+stmts_from (s ∷ ss) in_loop done locals = onward (s in_loop locals) (λ r. stmts_from ss in_loop (done ++ r.0 ∷ []) r.1)
 
-abbrev pub catches_from : List CatchWalk → Inside → List TypedCatch → Amid (List TypedCatch)
-catches_from [] inside done locals = Gives (done, locals)
-catches_from (c ∷ cs) inside done locals = onward (c inside locals) (λ r. catches_from cs inside (done ++ r.0 ∷ []) r.1)
+abbrev pub catches_from : List CatchWalk → Bool → List TypedCatch → Amid (List TypedCatch)
+catches_from [] in_loop done locals = Gives (done, locals)
+catches_from (c ∷ cs) in_loop done locals = onward (c in_loop locals) (λ r. catches_from cs in_loop (done ++ r.0 ∷ []) r.1)
 
-abbrev pub stmt_where : Option StmtWalk → Inside → Amid (Option TypedStmt)
-stmt_where None inside locals = Gives (None, locals)
-stmt_where (Some s) inside locals = onward (scoped (s.walk (nested inside)) locals) (λ r. Gives (Some r.0, r.1))
+abbrev pub stmt_where : Option StmtWalk → Bool → Amid (Option TypedStmt)
+stmt_where None in_loop locals = Gives (None, locals)
+stmt_where (Some s) in_loop locals = onward (scoped (s in_loop) locals) (λ r. Gives (Some r.0, r.1))
 
-abbrev pub body_where : Option BodyWalk → Inside → Amid (Option (List TypedStmt))
-body_where None inside locals = Gives (None, locals)
-body_where (Some b) inside locals = onward (scoped (b (nested inside)) locals) (λ r. Gives (Some r.0, r.1))
+abbrev pub body_where : Option BodyWalk → Bool → Amid (Option (List TypedStmt))
+body_where None in_loop locals = Gives (None, locals)
+body_where (Some b) in_loop locals = onward (scoped (b in_loop) locals) (λ r. Gives (Some r.0, r.1))
 
 -- ---- the steps
 
@@ -78,26 +77,26 @@ body_where (Some b) inside locals = onward (scoped (b (nested inside)) locals) (
 abbrev pub still : {A : Type 0} → Locals → Walk A → Walk (A × Locals)
 still locals w = onward w (λ a. Gives (a, locals))
 
-abbrev pub block_by : BodyWalk → Inside → Amid TypedStmt
-block_by b inside locals = onward (scoped (b (nested inside)) locals) (λ r. Gives (T.Block r.0, r.1))
+abbrev pub block_by : BodyWalk → Bool → Amid TypedStmt
+block_by b in_loop locals = onward (scoped (b in_loop) locals) (λ r. Gives (T.Block r.0, r.1))
 
 module _ (s : Scene) where
-  abbrev pub if_by : Expr → StmtWalk → Option StmtWalk → Inside → Amid TypedStmt
-  if_by c then' else' inside locals =
+  abbrev pub if_by : Expr → StmtWalk → Option StmtWalk → Bool → Amid TypedStmt
+  if_by c then' else' in_loop locals =
       onward (tested s locals c) (λ test.
-      onward (scoped (then'.walk (nested inside)) locals) (λ first.
-      onward (stmt_where else' inside first.1) (λ second.
+      onward (scoped (then' in_loop) locals) (λ first.
+      onward (stmt_where else' in_loop first.1) (λ second.
       Gives (T.If test first.0 second.0, second.1))))
 
   abbrev pub while_by : Expr → StmtWalk → Amid TypedStmt
   while_by c again locals =
       onward (tested s locals c) (λ test.
-      onward (scoped (again.walk repeated) locals) (λ r.
+      onward (scoped (again true) locals) (λ r.
       Gives (T.While test r.0, r.1)))
 
   abbrev pub do_by : StmtWalk → Expr → Amid TypedStmt
   do_by again c locals =
-      onward (scoped (again.walk repeated) locals) (λ r.
+      onward (scoped (again true) locals) (λ r.
       onward (tested s r.1 c) (λ test.
       Gives (T.Do r.0 test, r.1)))
 
@@ -107,12 +106,12 @@ module _ (s : Scene) where
       onward (started s start locals) (λ first.
       onward (tested_where s first.1 c) (λ test.
       onward (read_where s first.1 step) (λ next.
-      onward (scoped (again.walk repeated) first.1) (λ r.
+      onward (scoped (again true) first.1) (λ r.
       ended locals (T.For first.0 test next r.0, r.1)))))
 
   abbrev pub each_of : Word → ValueType → StmtWalk → Locals → Conversion × TypedExpr → Walk (TypedStmt × Locals)
   each_of w kind again locals e =
-      onward (scoped_with w kind (again.walk repeated) locals) (λ r. Gives (T.ForEach (length locals) e.0 e.1 r.0, r.1))
+      onward (scoped_with w kind (again true) locals) (λ r. Gives (T.ForEach (length locals) e.0 e.1 r.0, r.1))
 
   -- the list doesn't see the variable
   abbrev pub each_by : TypeTree → Word → Expr → StmtWalk → Amid TypedStmt
@@ -122,52 +121,46 @@ module _ (s : Scene) where
       onward (value_in s locals x) (λ value.
       onward (each s.around.heads kind value) (each_of w kind again locals))))
 
-  abbrev pub try_by : BodyWalk → List CatchWalk → Option BodyWalk → Inside → Amid TypedStmt
-  try_by b cs f inside locals =
-      onward (scoped (b (nested inside)) locals) (λ body.
-      onward (catches_from cs inside [] body.1) (λ catches.
-      onward (body_where f inside catches.1) (λ last.
+  abbrev pub try_by : BodyWalk → List CatchWalk → Option BodyWalk → Bool → Amid TypedStmt
+  try_by b cs f in_loop locals =
+      onward (scoped (b in_loop) locals) (λ body.
+      onward (catches_from cs in_loop [] body.1) (λ catches.
+      onward (body_where f in_loop catches.1) (λ last.
       Gives (T.Try body.0 catches.0 last.0, last.1))))
 
-  abbrev pub stmt_walk : Stmt-F StmtWalk BodyWalk CatchWalk → Inside → Amid TypedStmt
-  stmt_walk (Stmt-F.Block b) inside locals = block_by b inside locals
-  stmt_walk (Stmt-F.Empty sp) inside locals = Gives (T.Block [], locals)
-  stmt_walk (Stmt-F.Declare sp t ds) inside locals = onward (declaration s t ds locals) (λ r. Gives (T.Declare r.0, r.1))
-  stmt_walk (Stmt-F.Expr sp x) inside locals = still locals (onward (read_in s locals x) (λ tree. Gives (T.Expr tree)))
-  stmt_walk (Stmt-F.If sp c then' else') inside locals = if_by c then' else' inside locals
-  stmt_walk (Stmt-F.While sp c again) inside locals = while_by c again locals
-  stmt_walk (Stmt-F.Do sp again c) inside locals = do_by again c locals
-  stmt_walk (Stmt-F.For sp start c step again) inside locals = for_by start c step again locals
-  stmt_walk (Stmt-F.ForEach sp t w x again) inside locals = each_by t w x again locals
-  stmt_walk (Stmt-F.Return sp x) inside locals = still locals (answered s locals sp.from x)
-  stmt_walk (Stmt-F.Break sp) inside locals = still locals (jump inside sp.from T.Break)
-  stmt_walk (Stmt-F.Continue sp) inside locals = still locals (jump inside sp.from T.Continue)
-  stmt_walk (Stmt-F.Throw sp x) inside locals = still locals (thrown s locals x)
-  stmt_walk (Stmt-F.Try sp b cs f) inside locals = try_by b cs f inside locals
-  stmt_walk (Stmt-F.Dml sp op x) inside locals = still locals (dml s locals op x)
-  stmt_walk (Stmt-F.This sp args) inside locals = still locals (called_own s locals inside sp.from args)
-  stmt_walk (Stmt-F.Super sp args) inside locals = still locals (called_parent s locals inside sp.from args)
-
-  abbrev pub is_empty : Stmt-F StmtWalk BodyWalk CatchWalk → Bool
-  is_empty (Stmt-F.Empty sp) = true
-  is_empty _ = false
-
   abbrev pub stmt_step : Stmt-F StmtWalk BodyWalk CatchWalk → StmtWalk
-  stmt_step t = record { empty = is_empty t; walk = stmt_walk t }
+  stmt_step (Stmt-F.Block b) in_loop locals = block_by b in_loop locals
+  stmt_step (Stmt-F.Empty sp) in_loop locals = Gives (T.Block [], locals)
+  stmt_step (Stmt-F.Declare sp t ds) in_loop locals = onward (declaration s t ds locals) (λ r. Gives (T.Declare r.0, r.1))
+  stmt_step (Stmt-F.Expr sp x) in_loop locals = still locals (onward (read_in s locals x) (λ tree. Gives (T.Expr tree)))
+  stmt_step (Stmt-F.If sp c then' else') in_loop locals = if_by c then' else' in_loop locals
+  stmt_step (Stmt-F.While sp c again) in_loop locals = while_by c again locals
+  stmt_step (Stmt-F.Do sp again c) in_loop locals = do_by again c locals
+  stmt_step (Stmt-F.For sp start c step again) in_loop locals = for_by start c step again locals
+  stmt_step (Stmt-F.ForEach sp t w x again) in_loop locals = each_by t w x again locals
+  stmt_step (Stmt-F.Return sp x) in_loop locals = still locals (answered s locals sp.from x)
+  stmt_step (Stmt-F.Break sp) in_loop locals = still locals (jump in_loop sp.from T.Break)
+  stmt_step (Stmt-F.Continue sp) in_loop locals = still locals (jump in_loop sp.from T.Continue)
+  stmt_step (Stmt-F.Throw sp x) in_loop locals = still locals (thrown s locals x)
+  stmt_step (Stmt-F.Try sp b cs f) in_loop locals = try_by b cs f in_loop locals
+  stmt_step (Stmt-F.Dml sp op x) in_loop locals = still locals (dml s locals op x)
+  -- constructors call others in front of all their statements
+  stmt_step (Stmt-F.This sp args) in_loop locals = wrong MisplacedJump sp.from
+  stmt_step (Stmt-F.Super sp args) in_loop locals = wrong MisplacedJump sp.from
 
   abbrev pub body_step : Body-F StmtWalk BodyWalk CatchWalk → BodyWalk
-  body_step b inside locals = stmts_from b.stmts inside [] locals
+  body_step b in_loop locals = stmts_from b.stmts in_loop [] locals
 
-  abbrev pub caught_by : Word → BodyWalk → Inside → Locals → ValueType → Walk (TypedCatch × Locals)
-  caught_by w b inside locals kind =
-      onward (scoped_with w kind (b (nested inside)) locals) (λ r.
+  abbrev pub caught_by : Word → BodyWalk → Bool → Locals → ValueType → Walk (TypedCatch × Locals)
+  caught_by w b in_loop locals kind =
+      onward (scoped_with w kind (b in_loop) locals) (λ r.
       Gives (record { kind = kind; slot = length locals; body = r.0 }, r.1))
 
   abbrev pub catch_step : Catch-F StmtWalk BodyWalk CatchWalk → CatchWalk
-  catch_step c inside locals =
+  catch_step c in_loop locals =
       onward (caught s.around.names s.around.heads c.class c.member) (λ kind.
       onward (fresh locals c.name) (λ _.
-      caught_by c.name c.body inside locals kind))
+      caught_by c.name c.body in_loop locals kind))
 
   -- ---- the folds
 

@@ -2,8 +2,10 @@
 
 ghost use Rattle.std.specs.Prelude.{◌≡◌};
 ghost use Rattle.name_meanings.specs.Settings.{around};
-ghost use Rattle.type_names.specs.Walks.{Comes};
+ghost use Rattle.type_names.specs.Walks.{Comes, Gives};
+ghost use Rattle.typed_program.specs.declared.unit.ParentCall.TheVariants as Call;
 ghost use Rattle.statement_walk.specs.Constructions as spec;
+ghost use Rattle.statement_walk.specs.declared.construct.Constructing.TheVariants as C;
 
 use apex_list::{Boxed, Items};
 use class_tables::Parent;
@@ -12,40 +14,29 @@ use name_meanings::Setting;
 use std::alloc::Global;
 use type_names::{TreeFault, WalkFault};
 use typed_calls::{Maker, constructor_of, instance_arguments, message};
-use typed_program::{Constructor, TypedStmt};
+use typed_program::{Constructor, ParentCall, TypedExpr};
 use typed_values::Typed;
 
 /// Which constructor is called.
 #[derive(Clone, Copy, Drop)]
 pub enum Constructing {
-    /// That of a class.
-    Class(usize, Constructor),
+    /// One of its own class, which has this number.
+    Own(usize, Constructor),
+    /// One of the parent, which has this number.
+    Parent(usize, Constructor),
     /// That of `Exception`.
     Exception,
     /// There is none for so many arguments.
     Nothing,
 }
 
-fn of_maker(maker: Maker) -> Constructing
-    ensures { result ≡ spec.of_maker maker }
+fn own_by(maker: Maker) -> Constructing
+    ensures { result ≡ spec.by_maker C.Own maker }
 {
     match maker {
-        Maker::Instance(class, constructor) => Constructing::Class(class, constructor),
+        Maker::Instance(class, constructor) => Constructing::Own(class, constructor),
         _ => Constructing::Nothing,
     }
-}
-
-fn of_class(
-    alloc: Global,
-    setting: &Setting,
-    class: usize,
-    at: usize,
-    count: usize,
-) -> Result<Constructing, WalkFault>
-    ensures { Comes (spec.of_class (around setting.now) class at count) result }
-{
-    let maker = constructor_of(alloc, setting, class, at, count)?;
-    Ok(of_maker(maker))
 }
 
 /// The constructor that `this` with so many arguments means, which stands at this byte.
@@ -58,22 +49,37 @@ pub fn own_constructor(
     ensures { Comes (spec.own_constructor (around setting.now) at count) result }
 {
     match setting.class {
-        Some(class) => of_class(alloc, setting, class, at, count),
+        Some(class) => {
+            let maker = constructor_of(alloc, setting, class, at, count)?;
+            Ok(own_by(maker))
+        }
         None => Ok(Constructing::Nothing),
     }
 }
 
-fn of_parent(
+fn parent_by(maker: Maker) -> Constructing
+    ensures { result ≡ spec.by_maker C.Parent maker }
+{
+    match maker {
+        Maker::Instance(class, constructor) => Constructing::Parent(class, constructor),
+        _ => Constructing::Nothing,
+    }
+}
+
+fn by_parent(
     alloc: Global,
     setting: &Setting,
-    class: usize,
+    parent: Parent,
     at: usize,
     count: usize,
 ) -> Result<Constructing, WalkFault>
-    ensures { Comes (spec.of_parent (around setting.now) class at count) result }
+    ensures { Comes (spec.by_parent (around setting.now) parent at count) result }
 {
-    match setting.lines.parent(class) {
-        Parent::Class(parent) => of_class(alloc, setting, parent, at, count),
+    match parent {
+        Parent::Class(class) => {
+            let maker = constructor_of(alloc, setting, class, at, count)?;
+            Ok(parent_by(maker))
+        }
         Parent::Exception => Ok(Constructing::Exception),
         Parent::None => Ok(Constructing::Nothing),
     }
@@ -90,9 +96,30 @@ pub fn parent_constructor(
     ensures { Comes (spec.parent_constructor (around setting.now) at count) result }
 {
     match setting.class {
-        Some(class) => of_parent(alloc, setting, class, at, count),
+        Some(class) => by_parent(alloc, setting, setting.lines.parent(class), at, count),
         None => Ok(Constructing::Nothing),
     }
+}
+
+fn own(
+    alloc: Global,
+    constructor: Constructor,
+    trees: Items<TypedExpr>,
+) -> Result<Boxed<ParentCall>, WalkFault>
+    ensures { Comes (Gives (Call.This constructor trees)) result }
+{
+    Ok(Boxed::new(alloc, ParentCall::This(constructor, trees))?)
+}
+
+fn of_parent(
+    alloc: Global,
+    class: usize,
+    constructor: Constructor,
+    trees: Items<TypedExpr>,
+) -> Result<Boxed<ParentCall>, WalkFault>
+    ensures { Comes (Gives (Call.Super class constructor trees)) result }
+{
+    Ok(Boxed::new(alloc, ParentCall::Super(class, constructor, trees))?)
 }
 
 /// The call of a constructor, which begins at this byte, with its arguments. `WrongArguments` at the byte where there is
@@ -103,17 +130,21 @@ pub fn constructed(
     how: Constructing,
     at: usize,
     args: Items<Typed>,
-) -> Result<Boxed<TypedStmt>, WalkFault>
+) -> Result<Boxed<ParentCall>, WalkFault>
     ensures { Comes (spec.constructed (around setting.now) how at args) result }
 {
     match how {
-        Constructing::Class(class, constructor) => {
+        Constructing::Own(class, constructor) => {
             let trees = instance_arguments(alloc, setting, class, constructor, at, args)?;
-            Ok(Boxed::new(alloc, TypedStmt::Construct(class, constructor, trees))?)
+            own(alloc, constructor, trees)
+        }
+        Constructing::Parent(class, constructor) => {
+            let trees = instance_arguments(alloc, setting, class, constructor, at, args)?;
+            of_parent(alloc, class, constructor, trees)
         }
         Constructing::Exception => {
             let trees = message(alloc, setting.lines, at, args)?;
-            Ok(Boxed::new(alloc, TypedStmt::ConstructException(trees))?)
+            Ok(Boxed::new(alloc, ParentCall::Exception(trees))?)
         }
         Constructing::Nothing => Err(TreeFault::new(FaultWord::WrongArguments, at).into()),
     }

@@ -11,6 +11,6 @@ mod view;
 mod walk;
 
 pub use endings::ends_surely;
-pub use simple::initial;
-pub use view::{BodyView, Inside};
+pub use simple::{called_own, called_parent, initial};
+pub use view::BodyView;
 pub use walk::{body_statements, statements};

@@ -10,7 +10,7 @@ use crate::construct::{constructed, own_constructor, parent_constructor};
 use crate::flow::{read, returned};
 use crate::made::bare;
 use crate::save::saved;
-use crate::view::{BodyView, Inside};
+use crate::view::BodyView;
 use apex_list::{Boxed, Items};
 use apex_syntax::{Declarator, DmlOp, Expr, ForStart, TypeTree};
 use expression_walk::{View, arguments, expression};
@@ -19,7 +19,7 @@ use local_scopes::{Scope, declare, fresh};
 use static_types::ValueType;
 use std::alloc::Global;
 use type_names::{TreeFault, WalkFault, type_of};
-use typed_program::{TypedExpr, TypedLocal, TypedStart, TypedStmt};
+use typed_program::{ParentCall, TypedExpr, TypedLocal, TypedStart, TypedStmt};
 use typed_values::{Typed, condition, fitted, stored};
 
 /// An expression with its type.
@@ -271,56 +271,41 @@ fn arguments_in(
     arguments(alloc, &sight, trees)
 }
 
-// Constructors call others in front of all their statements.
-fn placed(inside: Inside, at: usize) -> Result<(), TreeFault>
-    ensures { Tells (spec.placed inside at) result }
-{
-    if inside.first {
-        Ok(())
-    } else {
-        Err(TreeFault::new(FaultWord::MisplacedJump, at))
-    }
-}
-
-/// `this(..)`, which stands at this byte.
+/// `this(..)`, which stands at this byte in front of the statements of a constructor.
 pub fn called_own(
     alloc: Global,
     view: &BodyView,
     scope: &Scope,
-    inside: Inside,
     at: usize,
     trees: &[Expr],
-) -> Result<Boxed<TypedStmt>, WalkFault>
-    ensures { Comes (spec.called_own (scene view.now) scope.now inside at trees.now) result }
+) -> Result<Boxed<ParentCall>, WalkFault>
+    ensures { Comes (spec.called_own (scene view.now) scope.now at trees.now) result }
 {
-    placed(inside, at)?;
     let how = own_constructor(alloc, view.setting, at, trees.len())?;
     let args = arguments_in(alloc, view, scope, trees)?;
     constructed(alloc, view.setting, how, at, args)
 }
 
-/// `super(..)`, which stands at this byte.
+/// `super(..)`, which stands at this byte in front of the statements of a constructor.
 pub fn called_parent(
     alloc: Global,
     view: &BodyView,
     scope: &Scope,
-    inside: Inside,
     at: usize,
     trees: &[Expr],
-) -> Result<Boxed<TypedStmt>, WalkFault>
-    ensures { Comes (spec.called_parent (scene view.now) scope.now inside at trees.now) result }
+) -> Result<Boxed<ParentCall>, WalkFault>
+    ensures { Comes (spec.called_parent (scene view.now) scope.now at trees.now) result }
 {
-    placed(inside, at)?;
     let how = parent_constructor(alloc, view.setting, at, trees.len())?;
     let args = arguments_in(alloc, view, scope, trees)?;
     constructed(alloc, view.setting, how, at, args)
 }
 
 // `break` and `continue` stand in loops.
-fn in_loop(inside: Inside, at: usize) -> Result<(), TreeFault>
-    ensures { Tells (spec.in_loop inside at) result }
+fn looping(in_loop: bool, at: usize) -> Result<(), TreeFault>
+    ensures { Tells (spec.looping in_loop at) result }
 {
-    if inside.in_loop {
+    if in_loop {
         Ok(())
     } else {
         Err(TreeFault::new(FaultWord::MisplacedJump, at))
@@ -328,18 +313,18 @@ fn in_loop(inside: Inside, at: usize) -> Result<(), TreeFault>
 }
 
 /// `break`, which stands at this byte.
-pub fn breaks(alloc: Global, inside: Inside, at: usize) -> Result<Boxed<TypedStmt>, WalkFault>
-    ensures { Comes (spec.jump inside at typed.Break) result }
+pub fn breaks(alloc: Global, in_loop: bool, at: usize) -> Result<Boxed<TypedStmt>, WalkFault>
+    ensures { Comes (spec.jump in_loop at typed.Break) result }
 {
-    in_loop(inside, at)?;
+    looping(in_loop, at)?;
     Ok(Boxed::new(alloc, TypedStmt::Break)?)
 }
 
 /// `continue`, which stands at this byte.
-pub fn continues(alloc: Global, inside: Inside, at: usize) -> Result<Boxed<TypedStmt>, WalkFault>
-    ensures { Comes (spec.jump inside at typed.Continue) result }
+pub fn continues(alloc: Global, in_loop: bool, at: usize) -> Result<Boxed<TypedStmt>, WalkFault>
+    ensures { Comes (spec.jump in_loop at typed.Continue) result }
 {
-    in_loop(inside, at)?;
+    looping(in_loop, at)?;
     Ok(Boxed::new(alloc, TypedStmt::Continue)?)
 }
 

@@ -12,12 +12,3 @@ pub struct BodyView<'a> {
     pub methods: &'a MethodNames,
     pub due: &'a ResultHead,
 }
-
-/// Where a statement stands in its body.
-#[derive(Clone, Copy, Debug, PartialEq, Eq, Drop)]
-pub struct Inside {
-    /// Whether a loop is around it.
-    pub in_loop: bool,
-    /// Whether it stands in the body of a constructor itself with nothing but `;` before it.
-    pub first: bool,
-}

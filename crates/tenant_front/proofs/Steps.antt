@@ -1,5 +1,5 @@
 -- The steps of a front end, each behind those before it.
-use Rattle.std.proofs.Common.{arith, ◌≡◌, ◌<◌, ◌+◌, inl, inr, ℕ, suc, List, [], ◌∷◌, ◌++◌, map, length, Result, Ok, Err, MatchResult, refl, sym, ap, ◌∙◌, subst}
+use Rattle.std.proofs.Common.{arith, ◌≡◌, ◌<◌, ◌+◌, inl, inr, ℕ, suc, List, [], ◌∷◌, map, length, Result, Ok, Err, MatchResult, refl, sym, ap, ◌∙◌, subst}
 use Rattle.std.specs.Result.{IsErr, IsErrAnd}
 use Rattle.std.proofs.lemmas.List.{length-map}
 use Rattle.schema_plans.specs.declared.plan_fault.SchemaFault.{SchemaFault}
@@ -10,12 +10,13 @@ use Rattle.schema_plans.specs.Schemas.{user_of}
 use Rattle.apex_syntax.specs.declared.unit.Unit.{Unit as Tree}
 use Rattle.apex_types.specs.declared.fault.TypeFault.{TypeFault}
 use Rattle.typed_program.specs.declared.program.Program.{Program}
-use Rattle.apex_types.specs.Checks.{Check, Gives, Wrong as WrongIn, next, in_unit, units_from, class_after, block_of, home_of, typed_units, program_with, checked}
+use Rattle.apex_types.specs.Checks.{Check, Gives, Wrong as WrongIn, next, in_unit, no_code, units_from, block_of, home_of, typed_units, program_of, checked}
 use Rattle.record_words.specs.Names.{object_names}
 use Rattle.type_names.specs.Walks.{Walk}
 use Rattle.type_names.specs.Walks as W
 use Rattle.apex_types.specs.Units.{unit_step}
 use Rattle.apex_types.specs.Homes.{Home}
+use Rattle.apex_types.specs.declared.code.Code.{Code}
 use Rattle.bundle_read.specs.declared.entries.TenantPlan.{TenantPlan}
 use Rattle.bundle_read.specs.declared.entries.UnitPlan.{UnitPlan}
 use Rattle.seed_rows.specs.declared.fault.SeedFault.{SeedFault}
@@ -32,7 +33,6 @@ use Rattle.tenant_sessions.specs.Users.{AreUsers, IsFirstFault}
 use Rattle.tenant_units.specs.declared.fault.UnitFault.{UnitFault}
 use Rattle.tenant_units.specs.declared.fault.UnitFault.TheVariants as Units
 use Rattle.tenant_units.specs.Trees.{AreUnits, NoUnits}
-use Rattle.typed_program.specs.declared.unit.TypedUnit.{TypedUnit}
 
 module _ (plan : TenantPlan) where
   pub schema_fault : (fault : SchemaFault) → Deploys plan.schema (Err fault) → NoPart plan (of_schema fault)
@@ -55,16 +55,16 @@ module _ (plan : TenantPlan) (schema : Schema) (deployed : IsDeployed plan.schem
   rest_fault NoMemory h = tt
 
 -- the code of units has its fault whatever the blocks are, and is a program whatever they are
-any_blocks : (made : Check (List TypedUnit)) (h : Home) (blocks : List Tree) (program : Program) → next (next made (λ units. Gives (units, map (block_of h) blocks))) (λ code. Gives (program_with code)) ≡ Gives program
-    → (p : Program) × (next (next made (λ units. Gives (units, map (block_of h) []))) (λ code. Gives (program_with code)) ≡ Gives p)
-any_blocks (Gives units) h blocks program is = (program_with (units, []), refl)
+any_blocks : (made : Check Code) (h : Home) (blocks : List Tree) (program : Program) → next made (λ code. Gives (program_of code (map (block_of h) blocks))) ≡ Gives program
+    → (p : Program) × (next made (λ code. Gives (program_of code (map (block_of h) []))) ≡ Gives p)
+any_blocks (Gives code) h blocks program is = (program_of code [], refl)
 any_blocks (WrongIn fault) h blocks program is = absurd (cc)
 
 pub no_blocks : (schema : Schema) (units blocks : List Tree) (program : Program) → IsProgram schema units blocks program → (p : Program) × IsProgram schema units [] p
 no_blocks schema units blocks program is = any_blocks (typed_units schema.objects units) (home_of schema.objects units) blocks program is
 
-same_fault : (made : Check (List TypedUnit)) (h : Home) (blocks : List Tree) (fault : TypeFault) → next (next made (λ units. Gives (units, map (block_of h) blocks))) (λ code. Gives (program_with code)) ≡ WrongIn fault → made ≡ WrongIn fault
-same_fault (Gives units) h blocks fault is = absurd (cc)
+same_fault : (made : Check Code) (h : Home) (blocks : List Tree) (fault : TypeFault) → next made (λ code. Gives (program_of code (map (block_of h) blocks))) ≡ WrongIn fault → made ≡ WrongIn fault
+same_fault (Gives code) h blocks fault is = absurd (cc)
 same_fault (WrongIn other) h blocks fault is = let e : other ≡ fault = cc in ap WrongIn e
 
 pub unit_is_wrong : (schema : Schema) (units blocks : List Tree) (fault : TypeFault) → checked schema.objects units blocks ≡ WrongIn fault → typed_units schema.objects units ≡ WrongIn fault
@@ -72,17 +72,17 @@ unit_is_wrong schema units blocks fault is = same_fault (typed_units schema.obje
 
 -- ---- a fault is one of a unit that is there
 
-in_walk : (n m : ℕ) (w : Walk TypedUnit) (rest : TypedUnit → Check (List TypedUnit)) (fault : TypeFault) → n < m → ((made : TypedUnit) → rest made ≡ WrongIn fault → fault.unit < m) → next (in_unit n w) rest ≡ WrongIn fault → fault.unit < m
-in_walk n m (W.Gives made) rest fault lt more is = more made is
+in_walk : (n m : ℕ) (w : Walk Code) (rest : Code → Check Code) (fault : TypeFault) → n < m → ((code : Code) → rest code ≡ WrongIn fault → fault.unit < m) → next (in_unit n w) rest ≡ WrongIn fault → fault.unit < m
+in_walk n m (W.Gives code) rest fault lt more is = more code is
 in_walk n m (W.Wrong wrong) rest fault lt more is =
     let e : record { unit = n; fault = wrong } ≡ fault = cc in
     subst (λ (f : TypeFault). f.unit < m) e lt
 
-in_units : (objects : List (List ℕ)) (all : List Tree) (h : Home) (n class : ℕ) (ts : List Tree) (so_far : List TypedUnit) (fault : TypeFault) → units_from objects all h n class ts so_far ≡ WrongIn fault → fault.unit < n + length ts
-in_units objects all h n class [] so_far fault is = absurd (cc)
-in_units objects all h n class (t ∷ ts) so_far fault is =
-    in_walk n (n + length (t ∷ ts)) (unit_step objects all h n class t) (λ made. units_from objects all h (n + 1) (class_after t class) ts (so_far ++ made ∷ [])) fault (omega arith)
-    (λ made more. let less = in_units objects all h (n + 1) (class_after t class) ts (so_far ++ made ∷ []) fault more in omega arith) is
+in_units : (objects : List (List ℕ)) (all : List Tree) (h : Home) (n : ℕ) (ts : List Tree) (code : Code) (fault : TypeFault) → units_from objects all h n ts code ≡ WrongIn fault → fault.unit < n + length ts
+in_units objects all h n [] code fault is = absurd (cc)
+in_units objects all h n (t ∷ ts) code fault is =
+    in_walk n (n + length (t ∷ ts)) (unit_step objects all h n t code) (units_from objects all h (n + 1) ts) fault (omega arith)
+    (λ made more. let less = in_units objects all h (n + 1) ts made fault more in omega arith) is
 
 as_many : (plans : List UnitPlan) (units : List Tree) → AreUnits plans units → length plans ≡ length units
 as_many [] units h = ap length (sym h)
@@ -91,7 +91,7 @@ as_many (p ∷ ps) (t ∷ ts) h = ap suc (as_many ps ts h.1)
 
 pub is_there : (schema : Schema) (plans : List UnitPlan) (units blocks : List Tree) (fault : TypeFault) → AreUnits plans units → checked schema.objects units blocks ≡ WrongIn fault → fault.unit < length plans
 is_there schema plans units blocks fault h is =
-    let less : fault.unit < 0 + length units = in_units (object_names schema.objects) units (home_of schema.objects units) 0 0 units [] fault (unit_is_wrong schema units blocks fault is) in
+    let less : fault.unit < 0 + length units = in_units (object_names schema.objects) units (home_of schema.objects units) 0 units no_code fault (unit_is_wrong schema units blocks fault is) in
     let same = as_many plans units h in
     omega arith
 

@@ -18,7 +18,7 @@ use Rattle.tenant_sessions.specs.Users.{AreUsers, each_user, first_none, unknown
 use Rattle.tenant_units.specs.Faults.{Tells}
 use Rattle.tenant_units.specs.Trees.{AreUnits, IsFirstFault as IsTextFault}
 use Rattle.type_names.specs.declared.fault.TreeFault.{TreeFault}
-use Rattle.typed_program.specs.declared.unit.TypedUnit.{TypedUnit}
+use Rattle.typed_program.specs.declared.stmt.TypedStmt.{TypedStmt}
 use Rattle.tenant_front.specs.declared.fault.FrontFault.{FrontFault}
 use Rattle.tenant_front.specs.declared.fault.FrontFault.TheVariants.{Wrong, NoMemory}
 use Rattle.tenant_parts.specs.declared.part.TenantPart.{TenantPart}
@@ -51,8 +51,8 @@ NoProgram schema plans units NoMemory = Unit {0}
 
 -- ---- a part
 
-abbrev pub fault_of : Result TypedUnit TreeFault → Option TreeFault
-fault_of (Ok unit) = None
+abbrev pub fault_of : Result (List TypedStmt) TreeFault → Option TreeFault
+fault_of (Ok stmts) = None
 fault_of (Err fault) = Some fault
 
 -- what a tenant has beside its schema, where its sessions have these users and its units these trees

@@ -23,7 +23,7 @@ use tenant_schema::deploy_schema;
 use tenant_sessions::session_users;
 use tenant_units::{fault_at, unit_trees};
 use type_names::TreeFault;
-use typed_program::TypedUnit;
+use typed_program::TypedStmt;
 
 // The fault of a unit, at its name.
 fn told(alloc: Global, units: &[UnitPlan], fault: &TypeFault) -> FrontFault
@@ -54,7 +54,7 @@ fn program_of(
     }
 }
 
-fn fault_of(block: &Result<TypedUnit, TreeFault>) -> Option<TreeFault>
+fn fault_of(block: &Result<Items<TypedStmt>, TreeFault>) -> Option<TreeFault>
     ensures { result ≡ spec.fault_of block.now }
 {
     match block {
@@ -65,7 +65,7 @@ fn fault_of(block: &Result<TypedUnit, TreeFault>) -> Option<TreeFault>
 
 fn faults_of(
     alloc: Global,
-    blocks: &[Result<TypedUnit, TreeFault>],
+    blocks: &[Result<Items<TypedStmt>, TreeFault>],
 ) -> Result<Items<Option<TreeFault>>, NoMemory>
     ensures { IfOk result (λ all. all ≡ map spec.fault_of blocks.now) }
 {

@@ -1,6 +1,16 @@
 //! What the variables and the things of a transaction are.
 #![tactic(auto)]
 
+mod change;
+mod entries;
+mod heap;
+mod keys;
+mod statics;
 mod thing;
 
-pub use thing::{Record, Ref, Thing, Value};
+pub use change::Change;
+pub use entries::Entries;
+pub use heap::Heap;
+pub use keys::{Keys, copy_cells};
+pub use statics::Statics;
+pub use thing::{Exception, Instance, Record, Ref, Thing, Value};

@@ -2,8 +2,11 @@
 
 ghost use Rattle.std.specs.Prelude.{◌≡◌, IfOk};
 
+use crate::entries::Entries;
+use crate::keys::Keys;
 use apex_list::Items;
-use apex_num::{Cell, NoMemory};
+use apex_num::{Cell, Copied, NoMemory};
+use builtin_table::ExceptionClass;
 
 /// A thing, by the number of things that were made before it in the transaction.
 #[derive(Clone, Copy, Debug, PartialEq, Eq, Hash, Drop)]
@@ -27,11 +30,31 @@ pub struct Record {
     pub cells: Items<Option<Cell>>,
 }
 
+/// An instance of a declared class. Its fields are those of the farthest ancestor first, a place for each one that a class
+/// declares. The message is that of an exception, and null in other classes.
+#[derive(Drop)]
+pub struct Instance {
+    pub class: usize,
+    pub message: Cell,
+    pub fields: Items<Value>,
+}
+
+/// An exception of a built-in class, with its message or null.
+#[derive(Drop)]
+pub struct Exception {
+    pub class: ExceptionClass,
+    pub message: Cell,
+}
+
 /// A thing that a transaction made.
 #[derive(Drop)]
 pub enum Thing {
     Record(Record),
+    Instance(Instance),
     List(Items<Value>),
+    Set(Keys),
+    Map(Entries),
+    Exception(Exception),
 }
 
 impl Value {
@@ -43,5 +66,11 @@ impl Value {
             Value::Plain(cell) => Ok(Value::Plain(cell.copy()?)),
             Value::Object(thing) => Ok(Value::Object(*thing)),
         }
+    }
+}
+
+impl Copied for Value {
+    fn copied(&self) -> Result<Value, NoMemory> {
+        self.copy()
     }
 }

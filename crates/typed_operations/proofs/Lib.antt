@@ -1,1 +1,2 @@
 pub mod NullSides
+pub mod LastParts

@@ -7,7 +7,6 @@ use Rattle.static_types.specs.declared.kind.Primitive.{Primitive}
 use Rattle.static_types.specs.declared.kind.Primitive.TheVariants as P
 use Rattle.typed_operations.specs.Judgements.{judge, is_refused, scaled, left_scale, ordered, scale_of, left_measure, arithmetic, measure_of, plain, logical, is_truth, equal, plus}
 use Rattle.typed_operations.specs.Sorts.{sort_of}
-use Rattle.typed_operations.specs.declared.judgement.Judged.{Judged}
 use Rattle.typed_operations.specs.declared.judgement.Judged.TheVariants.{Left, Right}
 use Rattle.typed_operations.specs.declared.judgement.Measure.{Measure}
 use Rattle.typed_operations.specs.declared.judgement.Measure.TheVariants as M

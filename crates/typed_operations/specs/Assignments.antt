@@ -4,6 +4,7 @@ use Rattle.fault_words.specs.declared.fault.FaultWord.TheVariants.{WrongType}
 use Rattle.apex_syntax.specs.declared.expr.BinaryOp.{BinaryOp}
 use Rattle.class_tables.specs.declared.head.ClassHead.{ClassHead}
 use Rattle.typed_operations.specs.declared.judgement.Fit.{Fit}
+use Rattle.typed_operations.specs.declared.place.Target.{Target}
 use Rattle.type_names.specs.Walks.{Walk, Gives, wrong, onward}
 use Rattle.typed_program.specs.declared.expr.Assignment.{Assignment}
 use Rattle.typed_program.specs.declared.expr.Conversion.{Conversion}
@@ -13,7 +14,7 @@ use Rattle.typed_program.specs.declared.expr.TypedExpr.TheVariants.{Assign, Assi
 use Rattle.typed_values.specs.declared.typed.Kind.{Kind}
 use Rattle.typed_values.specs.declared.typed.Kind.TheVariants.{Nothing, Is}
 use Rattle.typed_values.specs.declared.typed.Typed.{Typed}
-use Rattle.typed_values.specs.Fits.{plain, conversion, converted, stored}
+use Rattle.typed_values.specs.Fits.{plain, conversion, stored}
 use Rattle.typed_operations.specs.Chains.{given, fit_at}
 
 abbrev pub any_kind : Kind → Typed → Walk TypedExpr
@@ -28,30 +29,25 @@ abbrev pub stored_as : List ClassHead → Kind → Typed → Walk TypedExpr
 stored_as heads (Is to) value = stored heads value to
 stored_as heads kind value = any_value value
 
-abbrev pub assigned : List ClassHead → Typed → Typed → Walk Typed
+abbrev pub assigned : List ClassHead → Target → Typed → Walk Typed
 assigned heads target value =
-    onward (stored_as heads target.kind value) (λ tree. Gives (plain target.at target.kind (Assign target.tree tree)))
+    onward (stored_as heads target.kind value) (λ tree. Gives (plain target.at target.kind (Assign target.place tree)))
 
 abbrev pub back : List ClassHead → Kind → Kind → Option Conversion
 back heads kind (Is to) = conversion heads kind to
 back heads kind target = Some Same
 
 abbrev pub back_or : Option Conversion → Fit → ℕ → Walk Assignment
-back_or (Some how) fit at = Gives (record { left = fit.left; op = fit.op; back = how })
+back_or (Some how) fit at = Gives (record { left = fit.left; op = fit.op; right = fit.right; back = how })
 back_or None fit at = wrong WrongType at
 
 abbrev pub back_at : List ClassHead → Fit → Kind → ℕ → Walk Assignment
 back_at heads fit target at = back_or (back heads (given fit.gives) target) fit at
 
 -- the target is the left operand, and what the operator gives becomes its value
-abbrev pub fitting : List ClassHead → Typed → BinaryOp → Typed → Walk (Assignment × Conversion)
-fitting heads target op value =
-    onward (fit_at heads target.kind target.at op value) (λ fit.
-    onward (back_at heads fit target.kind value.at) (λ how. Gives (how, fit.right)))
+abbrev pub fitting : List ClassHead → Target → BinaryOp → Typed → Walk Assignment
+fitting heads target op value = onward (fit_at heads target.kind target.at op value) (λ fit. back_at heads fit target.kind value.at)
 
-abbrev pub with_fit : Typed → Assignment → Conversion → TypedExpr → Typed
-with_fit target how right value = plain target.at target.kind (AssignWith target.tree how (converted right value))
-
-abbrev pub assigned_with : List ClassHead → Typed → BinaryOp → Typed → Walk Typed
+abbrev pub assigned_with : List ClassHead → Target → BinaryOp → Typed → Walk Typed
 assigned_with heads target op value =
-    onward (fitting heads target op value) (λ r. Gives (with_fit target r.0 r.1 value.tree))
+    onward (fitting heads target op value) (λ how. Gives (plain target.at target.kind (AssignWith target.place how value.tree)))

@@ -17,7 +17,6 @@ use Rattle.typed_values.specs.declared.typed.Kind.{Kind}
 use Rattle.typed_values.specs.declared.typed.Kind.TheVariants.{Faulty, Is}
 use Rattle.typed_values.specs.declared.typed.Role.TheVariants.{Plain}
 use Rattle.typed_values.specs.declared.typed.Typed.{Typed}
-use Rattle.typed_values.specs.Fits.{converted}
 use Rattle.typed_operations.specs.declared.chain.OpenChain.{OpenChain}
 
 abbrev pub given : Option Primitive → Kind
@@ -28,7 +27,7 @@ abbrev pub begun : Typed → OpenChain
 begun value = record { at = value.at; kind = value.kind; first = value.tree; rest = [] }
 
 abbrev pub operand : Fit → TypedExpr → TypedOperand
-operand fit right = record { left = fit.left; op = fit.op; right = converted fit.right right }
+operand fit value = record { left = fit.left; op = fit.op; right = fit.right; value = value }
 
 abbrev pub with_fit : OpenChain → Fit → TypedExpr → OpenChain
 with_fit chain fit right = record {

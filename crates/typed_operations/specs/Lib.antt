@@ -1,6 +1,7 @@
 pub mod Sorts
 pub mod Judgements
 pub mod Chains
+pub mod Places
 pub mod Prefixes
 pub mod Choices
 pub mod Casts

@@ -1,9 +1,10 @@
 -- Prefix operators, `++` and `--` (docs/language.md, "Operators").
 use Rattle.std.specs.Prelude.{ℕ, List, Option, None, Some}
-use Rattle.fault_words.specs.declared.fault.FaultWord.TheVariants.{WrongType, NotWritable}
+use Rattle.fault_words.specs.declared.fault.FaultWord.TheVariants.{WrongType}
 use Rattle.class_tables.specs.declared.head.ClassHead.{ClassHead}
 use Rattle.typed_operations.specs.declared.sort.Sort.{Sort}
 use Rattle.typed_operations.specs.declared.sort.Sort.TheVariants as S
+use Rattle.typed_operations.specs.Places.{writable}
 use Rattle.typed_operations.specs.Sorts.{sort_of, number_of}
 use Rattle.static_types.specs.declared.kind.Primitive.TheVariants as P
 use Rattle.static_types.specs.declared.kind.ValueType.TheVariants as V
@@ -14,8 +15,7 @@ use Rattle.typed_program.specs.declared.expr.StepKind.{StepKind}
 use Rattle.typed_program.specs.declared.expr.TypedExpr.TheVariants.{Not, Minus, Step}
 use Rattle.typed_values.specs.declared.typed.Kind.{Kind}
 use Rattle.typed_values.specs.declared.typed.Kind.TheVariants.{Null, Is}
-use Rattle.typed_values.specs.declared.typed.Role.{Role}
-use Rattle.typed_values.specs.declared.typed.Role.TheVariants.{Plain, Variable}
+use Rattle.typed_values.specs.declared.typed.Role.TheVariants.{Plain}
 use Rattle.typed_values.specs.declared.typed.Typed.{Typed}
 use Rattle.typed_values.specs.Fits.{condition}
 
@@ -45,18 +45,9 @@ abbrev pub opposite : ℕ → Typed → Walk Typed
 opposite at value =
     onward (number value) (λ n. Gives (record { at = at; kind = settled value.kind; role = Plain; tree = Minus n value.tree }))
 
-abbrev pub Nothing : Type 0
-Nothing = Unit {0}
-
--- only a variable may be assigned to
-abbrev pub may_write : Role → ℕ → Walk Nothing
-may_write Variable at = Gives tt
-may_write _ at = wrong NotWritable at
-
-abbrev pub writable : Typed → Walk Nothing
-writable target = may_write target.role target.at
-
 -- that it is no number is told before that it is no variable
 abbrev pub stepped : ℕ → StepKind → Typed → Walk Typed
-stepped at step target =
-    onward (number target) (λ n. onward (writable target) (λ _. Gives (record { at = at; kind = target.kind; role = Plain; tree = Step step n target.tree })))
+stepped at step value =
+    onward (number value) (λ n.
+    onward (writable value) (λ target.
+    Gives (record { at = at; kind = target.kind; role = Plain; tree = Step step n target.place })))

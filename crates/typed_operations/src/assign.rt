@@ -1,11 +1,12 @@
 // Assignments.
 
 ghost use Rattle.std.specs.Prelude.{◌≡◌, IfOk};
-ghost use Rattle.type_names.specs.Walks.{Comes, Gives, Tells};
+ghost use Rattle.type_names.specs.Walks.{Comes, Tells};
 ghost use Rattle.typed_operations.specs.Assignments as spec;
 
 use crate::Fit;
 use crate::chain::{fit_at, given};
+use crate::place::Target;
 use apex_list::Boxed;
 use apex_num::NoMemory;
 use apex_syntax::BinaryOp;
@@ -14,7 +15,7 @@ use fault_words::FaultWord;
 use std::alloc::Global;
 use type_names::{TreeFault, WalkFault};
 use typed_program::{Assignment, Conversion, TypedExpr};
-use typed_values::{Kind, Typed, conversion, converted, stored};
+use typed_values::{Kind, Typed, conversion, stored};
 
 // A value that is stored in a variable whose type is at fault elsewhere.
 fn any_value(value: Typed) -> Result<Boxed<TypedExpr>, TreeFault>
@@ -40,18 +41,18 @@ fn stored_as(
     }
 }
 
-/// `target = value`, where the target may be assigned to. `WrongType` at the value where it doesn't fit; a query itself
+/// `target = value`. `WrongType` at the value where it doesn't fit; a query itself
 /// may stand for its only record.
 pub fn assigned(
     alloc: Global,
     lines: &ClassHeads,
-    target: Typed,
+    target: Target,
     value: Typed,
 ) -> Result<Typed, WalkFault>
     ensures { Comes (spec.assigned lines.now.heads target value) result }
 {
     let value = stored_as(alloc, lines, &target.kind, value)?;
-    let tree = TypedExpr::Assign(target.tree, value);
+    let tree = TypedExpr::Assign(target.place, value);
     Ok(Typed::plain(alloc, target.at, target.kind, tree)?)
 }
 
@@ -72,6 +73,7 @@ fn back_at(lines: &ClassHeads, fit: Fit, target: &Kind, at: usize) -> Result<Ass
         Some(back) => Ok(Assignment {
             left: fit.left,
             op: fit.op,
+            right: fit.right,
             back,
         }),
         None => Err(TreeFault::new(FaultWord::WrongType, at)),
@@ -80,42 +82,28 @@ fn back_at(lines: &ClassHeads, fit: Fit, target: &Kind, at: usize) -> Result<Ass
 
 fn fitting(
     lines: &ClassHeads,
-    target: &Typed,
+    target: &Target,
     op: BinaryOp,
     value: &Typed,
-) -> Result<(Assignment, Conversion), TreeFault>
+) -> Result<Assignment, TreeFault>
     ensures { Tells (spec.fitting lines.now.heads target.now op value.now) result }
 {
     let fit = fit_at(lines, &target.kind, target.at, op, value)?;
-    let how = back_at(lines, fit, &target.kind, value.at)?;
-    Ok((how, fit.right))
+    back_at(lines, fit, &target.kind, value.at)
 }
 
-fn with_fit(
-    alloc: Global,
-    target: Typed,
-    how: Assignment,
-    right: Conversion,
-    value: Boxed<TypedExpr>,
-) -> Result<Typed, WalkFault>
-    ensures { Comes (Gives (spec.with_fit target how right value)) result }
-{
-    let value = converted(alloc, right, value)?;
-    let tree = TypedExpr::AssignWith(target.tree, how, value);
-    Ok(Typed::plain(alloc, target.at, target.kind, tree)?)
-}
-
-/// `target op= value`, where the target may be assigned to. `WrongType` at the target where the operator doesn't take it
-/// on its left, and at the value where it doesn't take that on its right, or where what it gives doesn't fit the target.
+/// `target op= value`. `WrongType` at the target where the operator doesn't take it on its left, and at the value where it
+/// doesn't take that on its right, or where what it gives doesn't fit the target.
 pub fn assigned_with(
     alloc: Global,
     lines: &ClassHeads,
-    target: Typed,
+    target: Target,
     op: BinaryOp,
     value: Typed,
 ) -> Result<Typed, WalkFault>
     ensures { Comes (spec.assigned_with lines.now.heads target op value) result }
 {
-    let (how, right) = fitting(lines, &target, op, &value)?;
-    with_fit(alloc, target, how, right, value.tree)
+    let how = fitting(lines, &target, op, &value)?;
+    let tree = TypedExpr::AssignWith(target.place, how, value.tree);
+    Ok(Typed::plain(alloc, target.at, target.kind, tree)?)
 }

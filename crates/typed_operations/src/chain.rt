@@ -15,7 +15,7 @@ use static_types::{Primitive, ValueType};
 use std::alloc::Global;
 use type_names::{TreeFault, WalkFault};
 use typed_program::{TypedExpr, TypedOperand};
-use typed_values::{Kind, Typed, converted};
+use typed_values::{Kind, Typed};
 
 /// The operands of a chain up to some place: what they give together, the first one, and the operators behind it.
 #[derive(Drop)]
@@ -67,19 +67,14 @@ pub fn fit_at(
     }
 }
 
-fn with_fit(
-    alloc: Global,
-    fit: Fit,
-    right: Boxed<TypedExpr>,
-    chain: &mut OpenChain,
-) -> Result<(), WalkFault>
-    ensures { Alters (Gives (spec.with_fit chain.old fit right)) result chain.new }
+fn with_fit(fit: Fit, value: Boxed<TypedExpr>, chain: &mut OpenChain) -> Result<(), WalkFault>
+    ensures { Alters (Gives (spec.with_fit chain.old fit value)) result chain.new }
 {
-    let right = converted(alloc, fit.right, right)?;
     chain.rest.push(TypedOperand {
         left: fit.left,
         op: fit.op,
-        right,
+        right: fit.right,
+        value,
     })?;
     chain.kind = given(fit.gives);
     Ok(())
@@ -88,7 +83,6 @@ fn with_fit(
 /// One operator and one operand more. `WrongType` at the first token of the chain where the operator doesn't take what
 /// stands before it, and at the right operand where it doesn't take that behind it.
 pub fn with_operand(
-    alloc: Global,
     lines: &ClassHeads,
     op: BinaryOp,
     right: Typed,
@@ -97,7 +91,7 @@ pub fn with_operand(
     ensures { Alters (spec.with_operand lines.now.heads chain.old op right) result chain.new }
 {
     let fit = fit_at(lines, &chain.kind, chain.at, op, &right)?;
-    with_fit(alloc, fit, right.tree, chain)
+    with_fit(fit, right.tree, chain)
 }
 
 /// The expression that a chain is.

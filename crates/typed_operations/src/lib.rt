@@ -8,6 +8,7 @@ mod chain;
 mod choice;
 mod judgement;
 mod laws;
+mod place;
 mod prefix;
 mod sort;
 
@@ -17,5 +18,6 @@ pub use chain::{OpenChain, begun, closed, with_operand};
 pub use choice::chosen;
 pub use judgement::{Fit, Judged, judge};
 pub use laws::laws_of_null;
-pub use prefix::{negated, opposite, stepped, writable};
+pub use place::{Target, writable};
+pub use prefix::{negated, opposite, stepped};
 pub use sort::{Sort, number_of, sort_of, type_of_number, wider};

@@ -4,6 +4,7 @@ ghost use Rattle.std.specs.Prelude.{◌≡◌};
 ghost use Rattle.type_names.specs.Walks.{Comes, Tells};
 ghost use Rattle.typed_operations.specs.Prefixes as spec;
 
+use crate::place::writable;
 use crate::{Sort, number_of, sort_of};
 use class_tables::ClassHeads;
 use fault_words::FaultWord;
@@ -11,7 +12,7 @@ use static_types::{Primitive, ValueType};
 use std::alloc::Global;
 use type_names::{TreeFault, WalkFault};
 use typed_program::{Number, StepKind, TypedExpr};
-use typed_values::{Kind, Role, Typed, condition};
+use typed_values::{Kind, Typed, condition};
 
 /// `!` of a condition, which begins at this byte.
 pub fn negated(
@@ -65,22 +66,12 @@ pub fn opposite(alloc: Global, at: usize, value: Typed) -> Result<Typed, WalkFau
     Ok(Typed::plain(alloc, at, settled(value.kind), tree)?)
 }
 
-/// Whether something may be assigned to: `NotWritable` at it where it may not.
-pub fn writable(target: &Typed) -> Result<(), TreeFault>
-    ensures { Tells (spec.writable target.now) result }
-{
-    match target.role {
-        Role::Variable => Ok(()),
-        _ => Err(TreeFault::new(FaultWord::NotWritable, target.at)),
-    }
-}
-
 /// `++` and `--` of a variable that is a number; the whole begins at this byte. `WrongType` comes before `NotWritable`.
-pub fn stepped(alloc: Global, at: usize, step: StepKind, target: Typed) -> Result<Typed, WalkFault>
-    ensures { Comes (spec.stepped at step target) result }
+pub fn stepped(alloc: Global, at: usize, step: StepKind, value: Typed) -> Result<Typed, WalkFault>
+    ensures { Comes (spec.stepped at step value) result }
 {
-    let n = number(&target)?;
-    writable(&target)?;
-    let tree = TypedExpr::Step(step, n, target.tree);
+    let kind = number(&value)?;
+    let target = writable(alloc, value)?;
+    let tree = TypedExpr::Step(step, kind, target.place);
     Ok(Typed::plain(alloc, at, target.kind, tree)?)
 }

@@ -126,12 +126,13 @@ pub enum CollectionKind {
     Map(Primitive),
 }
 
-/// An operator with an assignment: how the variable's value becomes the left operand, the operator, and how what it
-/// gives becomes the variable's value.
+/// An operator with an assignment: how the variable's value becomes the left operand, the operator, how the value becomes
+/// the right operand, and how what the operator gives becomes the variable's value.
 #[derive(Clone, Copy, PartialEq, Eq, Drop)]
 pub struct Assignment {
     pub left: Conversion,
     pub op: TypedOp,
+    pub right: Conversion,
     pub back: Conversion,
 }
 
@@ -159,11 +160,11 @@ pub enum TypedExpr {
     /// `a ? b : c`
     Conditional(Boxed<TypedExpr>, Boxed<TypedExpr>, Boxed<TypedExpr>),
     /// A variable and its new value.
-    Assign(Boxed<TypedExpr>, Boxed<TypedExpr>),
-    /// A variable, the operator, and the right operand.
-    AssignWith(Boxed<TypedExpr>, Assignment, Boxed<TypedExpr>),
+    Assign(Boxed<TypedPlace>, Boxed<TypedExpr>),
+    /// A variable, the operator, and the value that becomes its right operand.
+    AssignWith(Boxed<TypedPlace>, Assignment, Boxed<TypedExpr>),
     /// A variable that is a number of this type.
-    Step(StepKind, Number, Boxed<TypedExpr>),
+    Step(StepKind, Number, Boxed<TypedPlace>),
     /// An instance that has to be one of this class.
     Cast(usize, Boxed<TypedExpr>),
     /// An exception that has to be one of this built-in class.
@@ -177,6 +178,22 @@ pub enum TypedExpr {
     Debug(Boxed<TypedExpr>),
     /// A query, and its binds in the order of the text.
     Query(Boxed<Query>, Items<TypedBind>),
+}
+
+/// A variable that may be assigned to: its parts come before the value, and the value before the store.
+#[derive(Drop)]
+#[cycle(typed)]
+pub enum TypedPlace {
+    /// The local in a slot.
+    Local(usize),
+    /// The static of a class.
+    Static(usize, usize),
+    /// The field of an instance: the instance, and the class that has the field.
+    Field(Boxed<TypedExpr>, usize, usize),
+    /// The cell of a record: the record, its object and the field.
+    Cell(Boxed<TypedExpr>, usize, usize),
+    /// The element of a list.
+    Index(Boxed<TypedExpr>, Boxed<TypedExpr>),
 }
 
 /// A bind of a query.
@@ -199,8 +216,8 @@ pub enum TypedPart {
     Cell(usize, usize, bool),
     /// The record that a cell of a record leads to, with a mark as before.
     Parent(usize, usize, bool),
-    /// The records that lead to a record: their object, and the field that does.
-    Children(usize, usize),
+    /// The records that lead to a record: their object, and the field that does; with a mark as before.
+    Children(usize, usize, bool),
     /// The element of a list.
     Index(Boxed<TypedExpr>),
     /// A method of an instance: the class that has it; the mark says that the nearest method of the instance's own class
@@ -210,13 +227,15 @@ pub enum TypedPart {
     Builtin(Builtin, Items<TypedExpr>),
 }
 
-/// A binary operator, how what stands before it becomes its left operand, and its right operand.
+/// A binary operator, how what stands before it becomes its left operand, what stands behind it, and how that becomes its
+/// right operand. Both become operands once both were evaluated.
 #[derive(Drop)]
 #[cycle(typed)]
 pub struct TypedOperand {
     pub left: Conversion,
     pub op: TypedOp,
-    pub right: Boxed<TypedExpr>,
+    pub right: Conversion,
+    pub value: Boxed<TypedExpr>,
 }
 
 /// What `new` makes.

@@ -10,8 +10,11 @@ mod unit;
 pub use expr::{
     Arithmetic, Assignment, CollectionKind, Constant, Constructor, Conversion, Number, Order,
     StepKind, TriggerVariable, TypedBind, TypedExpr, TypedItem, TypedNew, TypedOp, TypedOperand,
-    TypedPair, TypedPart,
+    TypedPair, TypedPart, TypedPlace,
 };
 pub use program::Program;
 pub use stmt::{Saved, TypedCatch, TypedLocal, TypedStart, TypedStmt};
-pub use unit::{ParentCall, TypedClass, TypedConstructor, TypedUnit};
+pub use unit::{
+    ImpliedCall, ParentCall, ParentClass, TypedClass, TypedConstructor, TypedEvent, TypedField,
+    TypedMethod, TypedTrigger,
+};

@@ -1,6 +1,6 @@
 // The code of a tenant.
 
-use crate::TypedUnit;
+use crate::{TypedClass, TypedStmt, TypedTrigger};
 use apex_list::Items;
 use type_names::TreeFault;
 
@@ -8,8 +8,10 @@ use type_names::TreeFault;
 /// numbers from 0.
 #[derive(Drop)]
 pub struct Program {
-    /// The code of the units, in their order.
-    pub units: Items<TypedUnit>,
-    /// The code of each block, or its first fault.
-    pub blocks: Items<Result<TypedUnit, TreeFault>>,
+    /// Its classes and interfaces, in the order of their units.
+    pub classes: Items<TypedClass>,
+    /// Its triggers, in the order of their units.
+    pub triggers: Items<TypedTrigger>,
+    /// The statements of each block, or its first fault.
+    pub blocks: Items<Result<Items<TypedStmt>, TreeFault>>,
 }

@@ -1,6 +1,6 @@
 // The typed trees of statements. Numbers count from 0, as in `typed_trees`.
 
-use crate::{Constructor, Conversion, TypedExpr};
+use crate::{Conversion, TypedExpr};
 use apex_list::{Boxed, Items};
 use apex_syntax::DmlOp;
 use static_types::ValueType;
@@ -29,10 +29,6 @@ pub enum TypedStmt {
     /// Statements, what catches, and what stands behind `finally`.
     Try(Items<TypedStmt>, Items<TypedCatch>, Option<Items<TypedStmt>>),
     Dml(DmlOp, Saved, TypedExpr),
-    /// The constructor of this class, on the instance that is made, with its arguments.
-    Construct(usize, Constructor, Items<TypedExpr>),
-    /// The constructor of `Exception`, on the exception that is made: nothing, or a message.
-    ConstructException(Items<TypedExpr>),
 }
 
 /// What catches exceptions of a type, which the slot has then.

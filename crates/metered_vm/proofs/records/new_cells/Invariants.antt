@@ -2,7 +2,7 @@ use Rattle.std.proofs.Common.{◌≡◌, ◌≤◌, drop, length}
 use Rattle.std.specs.Prelude.{None, replicate}
 use Rattle.std.specs.Option.{option_copied}
 use Rattle.apex_meaning.specs.Expressions.{with_pairs, width}
-use Rattle.stack_code.specs.Machine.{paired}
+use Rattle.stack_code.specs.Things.{paired}
 use Rattle.metered_vm.proofs.records.new_cells.Given as goal
 
 abbrev pub invariant-loop-value : goal.invariant-loop-value

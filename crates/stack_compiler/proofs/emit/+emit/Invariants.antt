@@ -1,5 +1,7 @@
 use Rattle.std.proofs.Common.{◌≡◌, ◌++◌, take, map}
-use Rattle.stack_compiler.specs.Code.{joined, expr_code, operand_code, pair_code, pairs_code}
+use Rattle.stack_compiler.specs.Codes.{joined}
+use Rattle.stack_compiler.specs.Things.{pairs_code}
+use Rattle.stack_compiler.specs.Code.{expr_code, operand_code, pair_code}
 use Rattle.stack_compiler.proofs.emit.+emit.Given as goal
 
 abbrev pub invariant-emit_exprs-loop-expr : goal.invariant-emit_exprs-loop-expr

@@ -1,5 +1,6 @@
 use Rattle.std.proofs.Common.{◌≡◌, ◌++◌, take, map}
-use Rattle.stack_compiler.specs.Code.{joined, stmt_code}
+use Rattle.stack_compiler.specs.Codes.{joined}
+use Rattle.stack_compiler.specs.Code.{stmt_code}
 use Rattle.stack_compiler.proofs.stmts.+emit_stmt.Given as goal
 
 abbrev pub invariant-emit_stmts-loop-stmt : goal.invariant-emit_stmts-loop-stmt

@@ -1,0 +1,6 @@
+//! Laws of the definitions that the methods of collections meet.
+#![tactic(auto)]
+
+mod laws;
+
+pub use laws::laws_of_collections;

@@ -1,0 +1,4 @@
+pub mod Kept
+pub mod Carried
+pub mod Sorts
+pub mod Sorting

@@ -1,0 +1,11 @@
+pub mod Entering
+pub mod Lists
+pub mod Making
+pub mod Maps
+pub mod Members
+pub mod Methods
+pub mod Operands
+pub mod Order
+pub mod Outcomes
+pub mod Plans
+pub mod Sets

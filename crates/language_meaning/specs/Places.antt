@@ -1,0 +1,93 @@
+-- Variables that are read and assigned to (docs/language.md, "What code does").
+use Rattle.std.specs.Prelude.{ℕ, Bool, true, false, cond, List, [], ◌∷◌, slice_get, slice_index_or, Option, None, Some}
+use Rattle.builtin_table.specs.declared.method.Builtin.TheVariants as B
+use Rattle.builtin_table.specs.declared.method.ListMethod.TheVariants as L
+use Rattle.platform_errors.specs.declared.thrown.Thrown.TheVariants.{NullObject}
+use Rattle.save_meaning.specs.Results.{Gives, bind}
+use Rattle.apex_meaning.specs.States.{State, Res, set_local, throws, unbuilt, with_heap}
+use Rattle.apex_meaning.specs.Values.{null}
+use Rattle.txn_heap.specs.declared.thing.Thing.{Thing}
+use Rattle.txn_heap.specs.declared.thing.Thing.TheVariants as T
+use Rattle.txn_heap.specs.declared.thing.Value.{Value}
+use Rattle.txn_heap.specs.declared.thing.Value.TheVariants.{Plain, Object}
+use Rattle.heap_methods.specs.Operands.{or_null}
+use Rattle.txn_heap.specs.Changes.{changed as things_changed, thing_after}
+use Rattle.txn_heap.specs.Statics.{static_at, with_static}
+use Rattle.txn_heap.specs.declared.change.Change.TheVariants as Now
+use Rattle.typed_program.specs.declared.expr.Assignment.{Assignment}
+use Rattle.typed_program.specs.declared.expr.Number.{Number}
+use Rattle.typed_program.specs.declared.expr.StepKind.{StepKind}
+use Rattle.typed_program.specs.declared.program.Program.{Program}
+use Rattle.value_operators.specs.Operators.{converted, stepped}
+use Rattle.language_meaning.specs.Classes.{field_place}
+use Rattle.language_meaning.specs.Collections.{on_collection}
+use Rattle.language_meaning.specs.Meanings.{Again, Do, Run, Behind, calc}
+use Rattle.language_meaning.specs.Operations.{apply}
+use Rattle.language_meaning.specs.Preparing.{prepared, with_statics}
+
+-- a variable once its parts were evaluated
+pub data Target : Type 0 where
+  LocalAt : ℕ → Target
+  StaticAt : ℕ → ℕ → Target
+  -- the instance, the class and its field
+  FieldAt : Value → ℕ → ℕ → Target
+  -- the record, its object and its field
+  CellAt : Value → ℕ → ℕ → Target
+  -- the list and the position
+  ItemAt : Value → Value → Target
+
+-- ---- fields of instances
+
+abbrev pub field_of_thing : ℕ → Option Thing → Run
+field_of_thing place (Some (T.Instance i)) st = Gives (slice_index_or i.fields place null) st
+field_of_thing place _ st = throws NullObject st
+
+abbrev pub field_in : ℕ → Value → Run
+field_in place (Plain c) st = throws NullObject st
+field_in place (Object r) st = field_of_thing place (slice_get st.world.heap r.place) st
+
+abbrev pub set_in_thing : ℕ → Value → ℕ → Option Thing → Do
+set_in_thing place v at (Some (T.Instance i)) st = Gives tt (with_heap (things_changed at (thing_after (Now.Set place v)) st.world.heap) st)
+set_in_thing place v at _ st = throws NullObject st
+
+abbrev pub set_field : ℕ → Value → Value → Do
+set_field place (Plain c) v st = throws NullObject st
+set_field place (Object r) v st = set_in_thing place v r.place (slice_get st.world.heap r.place) st
+
+-- ---- all variables
+
+module _ (program : Program) (again : Again) where
+  -- a static's class is prepared first
+  abbrev pub load : Target → Run
+  load (LocalAt x) st = Gives (slice_index_or st.here.locals x null) st
+  load (StaticAt c n) st = bind (prepared program again c st) (λ u s. Gives (or_null (static_at c n s.world.statics)) s)
+  load (FieldAt v c n) st = field_in (field_place program c n) v st
+  load (CellAt v object field) st = unbuilt st
+  load (ItemAt list at) st = on_collection (B.List L.Get) list (at ∷ []) st
+
+  abbrev pub store : Target → Value → Do
+  store (LocalAt x) v st = Gives tt (set_local x v st)
+  store (StaticAt c n) v st = bind (prepared program again c st) (λ u s. Gives tt (with_statics (with_static c n v s.world.statics) s))
+  store (FieldAt o c n) v st = set_field (field_place program c n) o v st
+  store (CellAt o object field) v st = unbuilt st
+  store (ItemAt list at) v st = bind (on_collection (B.List L.Set) list (at ∷ v ∷ []) st) (λ u s. Gives tt s)
+
+  -- the parts of the variable, the value, the store; the value is that of the whole
+  abbrev pub assigned : Run → Target → Run
+  assigned value t st = bind (value st) (λ v s. bind (store t v s) (λ u s1. Gives v s1))
+
+  -- the variable's value, the other one, the operator, the store
+  abbrev pub assigned_with : Assignment → Run → Target → Run
+  assigned_with how value t st =
+      bind (load t st) (λ old s.
+      bind (value s) (λ v s1.
+      bind (apply how.left how.op how.right old v s1) (λ w s2.
+      bind (calc (converted how.back w) s2) (λ x s3.
+      bind (store t x s3) (λ u s4. Gives x s4)))))
+
+  -- `++` and `--`: the new value where they stand before, and the old one where they stand behind
+  abbrev pub changed : StepKind → Number → Target → Run
+  changed kind n t st =
+      bind (load t st) (λ old s.
+      bind (calc (stepped kind.up n old) s) (λ new s1.
+      bind (store t new s1) (λ u s2. Gives (cond kind.before new old) s2)))

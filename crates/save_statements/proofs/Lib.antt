@@ -1,0 +1,2 @@
+mod Saves
+pub mod Sparing

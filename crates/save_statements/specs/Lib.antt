@@ -1,0 +1,4 @@
+pub mod Records
+pub mod Phases
+pub mod Statements
+pub mod Laws

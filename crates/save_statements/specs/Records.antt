@@ -1,0 +1,153 @@
+-- The records of every save on their way: each knows the row that it was (docs/platform.md, "Saves").
+use Rattle.std.specs.Prelude.{ℕ, suc, ◌-◌, ◌&&◌, not, eqb, Bool, true, false, List, [], ◌∷◌, ◌++◌, length, map, Option, None, Some}
+use Rattle.std.specs.List.{list_any}
+use Rattle.apex_num.specs.declared.cell.Cell.{Cell}
+use Rattle.apex_num.specs.declared.cell.Cell.TheVariants.{Id}
+use Rattle.platform_errors.specs.declared.record.RecordError.{RecordError}
+use Rattle.apex_schema.specs.declared.schema.FieldKind.{FieldKind}
+use Rattle.apex_schema.specs.declared.schema.FieldKind.TheVariants as Kind
+use Rattle.apex_schema.specs.declared.schema.Field.{Field}
+use Rattle.apex_schema.specs.declared.schema.Mode.{Mode}
+use Rattle.apex_schema.specs.declared.schema.Object.{Object}
+use Rattle.apex_schema.specs.declared.schema.Schema.{Schema}
+use Rattle.apex_rows.specs.declared.query.Cond.{Cond}
+use Rattle.apex_rows.specs.declared.query.Cond.TheVariants.{All, Within, Compare}
+use Rattle.apex_rows.specs.declared.query.CondOp.TheVariants.{Equal}
+use Rattle.apex_rows.specs.declared.query.Term.TheVariants.{Given}
+use Rattle.apex_rows.specs.declared.query.Terms.TheVariants.{Given as GivenAll}
+use Rattle.apex_rows.specs.declared.row.Row.{Row}
+use Rattle.apex_requests.specs.declared.request.Op.{Op}
+use Rattle.apex_requests.specs.declared.request.Op.TheVariants as Op'
+use Rattle.row_meaning.specs.Conds.{cell_of}
+use Rattle.row_meaning.specs.Rules.{equals}
+use Rattle.row_meaning.specs.Stores.{has_id}
+use Rattle.row_meaning.specs.Users.{user_id}
+
+-- what is done with the records of a chunk; an upsert has chunks of the first two
+pub data Act : Type 0 where
+  Inserting : Act
+  Updating : Act
+  Deleting : Act
+
+abbrev pub op_of : Act → Op
+op_of Inserting = Op'.Insert
+op_of Updating = Op'.Update
+op_of Deleting = Op'.Delete
+
+-- for whom: for code in a mode, or for the roll-ups of rows under the records
+pub data Manner : Type 0 where
+  ByCode : Mode → Manner
+  ByRollUps : Manner
+
+-- a row on its way: what it would be, or in a delete the row that goes; in an update what it was; what it was when its
+-- references were looked up last; and in a delete the Ids of all that goes, its own among them
+pub record Pending : Type 0 where
+  pub row : Row
+  pub old : Option Row
+  pub seen : Option Row
+  pub under : List (List ℕ)
+
+-- a record goes on, or has its first error
+pub data Record : Type 0 where
+  Going : Pending → Record
+  Wrong : RecordError → Record
+
+abbrev pub pending : Row → Option Row → Pending
+pending row old = record { row = row; old = old; seen = None; under = [] }
+
+abbrev pub judged_by : Pending → Option RecordError → Record
+judged_by p None = Going p
+judged_by p (Some e) = Wrong e
+
+-- each record that goes on is looked at
+abbrev pub judged : (Pending → Option RecordError) → List Record → List Record
+judged test [] = []
+judged test (Going p ∷ rs) = judged_by p (test p) ∷ judged test rs
+judged test (Wrong e ∷ rs) = Wrong e ∷ judged test rs
+
+-- each that goes on becomes something else
+abbrev pub changed_to : (Pending → Pending) → List Record → List Record
+changed_to f [] = []
+changed_to f (Going p ∷ rs) = Going (f p) ∷ changed_to f rs
+changed_to f (Wrong e ∷ rs) = Wrong e ∷ changed_to f rs
+
+-- those that go on, and their rows
+abbrev pub going : List Record → List Pending
+going [] = []
+going (Going p ∷ rs) = p ∷ going rs
+going (Wrong e ∷ rs) = going rs
+
+abbrev pub rows_of : List Pending → List Row
+rows_of [] = []
+rows_of (p ∷ ps) = p.row ∷ rows_of ps
+
+-- a cell is another than a row had; than no row it is another
+abbrev pub is_new : ℕ → Row → Option Row → Bool
+is_new field row None = true
+is_new field row (Some was) = not (equals (cell_of was field) (cell_of row field))
+
+-- in an update, a field changes
+abbrev pub changes : ℕ → Row → Option Row → Bool
+changes field row None = false
+changes field row (Some was) = is_new field row (Some was)
+
+-- ---- fields that name rows
+
+-- a field of an object, and the object whose rows it names
+pub record Naming : Type 0 where
+  pub object : ℕ
+  pub field : ℕ
+  pub to : ℕ
+
+abbrev pub master_to : FieldKind → Option ℕ
+master_to (Kind.MasterDetail link) = Some link.to
+master_to _ = None
+
+abbrev pub lookup_to : FieldKind → Option ℕ
+lookup_to (Kind.Lookup link) = Some link.to
+lookup_to _ = None
+
+abbrev pub naming_of : ℕ → ℕ → Option ℕ → List Naming
+naming_of object n None = []
+naming_of object n (Some to) = record { object = object; field = n; to = to } ∷ []
+
+abbrev pub namings_in : (FieldKind → Option ℕ) → ℕ → ℕ → List Field → List Naming
+namings_in leads object n [] = []
+namings_in leads object n (f ∷ fs) = naming_of object n (leads f.kind) ++ namings_in leads object (suc n) fs
+
+abbrev pub namings_from : (FieldKind → Option ℕ) → ℕ → List Object → List Naming
+namings_from leads n [] = []
+namings_from leads n (o ∷ os) = namings_in leads n 0 o.fields ++ namings_from leads (suc n) os
+
+-- the MasterDetail and the Lookup fields of a schema, in its order
+abbrev pub masters : Schema → List Naming
+masters schema = namings_from master_to 0 schema.objects
+
+abbrev pub lookups : Schema → List Naming
+lookups schema = namings_from lookup_to 0 schema.objects
+
+-- a cell of a row names one of these
+abbrev pub is_among : List (List ℕ) → Cell → Bool
+is_among ids (Id i) = has_id ids i
+is_among ids _ = false
+
+abbrev pub names_one : ℕ → List (List ℕ) → Row → Bool
+names_one field ids row = is_among ids (cell_of row field)
+
+-- one of these fields of a row names one of these
+abbrev pub named_by : List Naming → List (List ℕ) → Row → Bool
+named_by namings ids row = list_any (λ (n : Naming). eqb n.object row.object && names_one n.field ids row) namings
+
+-- ---- conditions of questions
+
+-- the field is one of these Ids
+abbrev pub within : ℕ → List (List ℕ) → Cond
+within field ids = Within (record { parents = []; field = field }) false (GivenAll (map (λ (i : List ℕ). Given (Id i)) ids))
+
+-- RowShare is the last object: its fields 2 and 3 are RowId and UserId
+abbrev pub row_share : Schema → ℕ
+row_share schema = length schema.objects - 1
+
+-- what is shared with a user of these rows
+abbrev pub shares_on : List (List ℕ) → ℕ → Cond
+shares_on ids user = All (within 2 ids ∷ Compare (record { parents = []; field = 3 }) Equal (Given (Id (user_id user))) ∷ [])

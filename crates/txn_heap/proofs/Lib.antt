@@ -1,0 +1,4 @@
+pub mod Places
+pub mod Distinct
+pub mod Prepared
+pub mod Written

@@ -1,0 +1,4 @@
+pub mod Changes
+pub mod Equal
+pub mod Statics
+pub mod Words

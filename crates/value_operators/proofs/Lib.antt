@@ -1,0 +1,3 @@
+mod Rounding
+mod Samples
+mod Steps

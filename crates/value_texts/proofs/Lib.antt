@@ -1,0 +1,5 @@
+mod Deep
+mod Items
+mod Joined
+mod Opened
+mod Samples
