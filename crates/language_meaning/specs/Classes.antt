@@ -32,10 +32,15 @@ abbrev pub parent_of : Option TypedClass → Option ℕ
 parent_of None = None
 parent_of (Some c) = number_of c.parent
 
+-- where there is no such class there is no ancestor
+abbrev pub linked : ℕ → Option TypedClass → List ℕ → List ℕ
+linked c None cs = []
+linked c (Some k) cs = c ∷ cs
+
 abbrev pub chain_within : ℕ → Program → Option ℕ → List ℕ
 chain_within zero program c = []
 chain_within (suc n) program None = []
-chain_within (suc n) program (Some c) = c ∷ chain_within n program (parent_of (class_at program c))
+chain_within (suc n) program (Some c) = linked c (class_at program c) (chain_within n program (parent_of (class_at program c)))
 
 -- a class and its ancestors, the nearest one first
 abbrev pub chain : Program → ℕ → List ℕ

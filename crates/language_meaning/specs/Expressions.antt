@@ -38,7 +38,7 @@ use Rattle.language_meaning.specs.Collections.{on_collection, make_filled, make_
 use Rattle.language_meaning.specs.Exceptions.{Kind, Declared, kind_of_thing, is_declared, is_built_in}
 use Rattle.language_meaning.specs.Meanings.{Again, Body, Method, Do, Run, Behind, all_of, calc, called, test, truth_of}
 use Rattle.language_meaning.specs.Operations.{boolean, operated, chained}
-use Rattle.language_meaning.specs.Places.{Target, LocalAt, StaticAt, FieldAt, CellAt, ItemAt, load, assigned, assigned_with, changed, field_in}
+use Rattle.language_meaning.specs.Places.{Target, LocalAt, StaticAt, FieldAt, CellAt, ItemAt, got, assigned, assigned_with, changed, field_in}
 use Rattle.language_meaning.specs.Preparing.{prepared, new_instance}
 
 -- a variable, once its parts are evaluated
@@ -128,7 +128,7 @@ module _ (setting : Setting) (again : Again) (names : List (List ℕ)) where
   abbrev pub expr_step : TypedExpr-F Run Run Run Behind Where Entry Behind (ℕ × Run) → Run
   expr_step (TypedExpr-F.Constant k) st = constant (is_cell k) k st
   expr_step (TypedExpr-F.«TypedExpr::Local» x) st = Gives (slice_index_or st.here.locals x null) st
-  expr_step (TypedExpr-F.«TypedExpr::Static» c n) st = load setting.program again (StaticAt c n) st
+  expr_step (TypedExpr-F.«TypedExpr::Static» c n) st = got setting.program again (StaticAt c n) st
   expr_step TypedExpr-F.This st = Gives st.here.this st
   expr_step (TypedExpr-F.Postfix e ps) st = bind (e st) (parts_of ps)
   expr_step (TypedExpr-F.Chain e os) st = bind (e st) (chained os)

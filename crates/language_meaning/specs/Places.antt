@@ -56,38 +56,47 @@ set_field place (Object r) v st = set_in_thing place v r.place (slice_get st.wor
 
 -- ---- all variables
 
-module _ (program : Program) (again : Again) where
-  -- a static's class is prepared first
+module _ (program : Program) where
   abbrev pub load : Target → Run
   load (LocalAt x) st = Gives (slice_index_or st.here.locals x null) st
-  load (StaticAt c n) st = bind (prepared program again c st) (λ u s. Gives (or_null (static_at c n s.world.statics)) s)
+  load (StaticAt c n) st = Gives (or_null (static_at c n st.world.statics)) st
   load (FieldAt v c n) st = field_in (field_place program c n) v st
   load (CellAt v object field) st = unbuilt st
   load (ItemAt list at) st = on_collection (B.List L.Get) list (at ∷ []) st
 
   abbrev pub store : Target → Value → Do
   store (LocalAt x) v st = Gives tt (set_local x v st)
-  store (StaticAt c n) v st = bind (prepared program again c st) (λ u s. Gives tt (with_statics (with_static c n v s.world.statics) s))
+  store (StaticAt c n) v st = Gives tt (with_statics (with_static c n v st.world.statics) st)
   store (FieldAt o c n) v st = set_field (field_place program c n) o v st
   store (CellAt o object field) v st = unbuilt st
   store (ItemAt list at) v st = bind (on_collection (B.List L.Set) list (at ∷ v ∷ []) st) (λ u s. Gives tt s)
 
+module _ (program : Program) (again : Again) where
+  -- the class of a static is prepared first
+  abbrev pub ready : Target → Do
+  ready (StaticAt c n) st = prepared program again c st
+  ready _ st = Gives tt st
+
+  -- the value of a variable
+  abbrev pub got : Target → Run
+  got t st = bind (ready t st) (λ u s. load program t s)
+
   -- the parts of the variable, the value, the store; the value is that of the whole
   abbrev pub assigned : Run → Target → Run
-  assigned value t st = bind (value st) (λ v s. bind (store t v s) (λ u s1. Gives v s1))
+  assigned value t st = bind (value st) (λ v s. bind (ready t s) (λ u s1. bind (store program t v s1) (λ u1 s2. Gives v s2)))
 
   -- the variable's value, the other one, the operator, the store
   abbrev pub assigned_with : Assignment → Run → Target → Run
   assigned_with how value t st =
-      bind (load t st) (λ old s.
+      bind (got t st) (λ old s.
       bind (value s) (λ v s1.
       bind (apply how.left how.op how.right old v s1) (λ w s2.
       bind (calc (converted how.back w) s2) (λ x s3.
-      bind (store t x s3) (λ u s4. Gives x s4)))))
+      bind (store program t x s3) (λ u s4. Gives x s4)))))
 
   -- `++` and `--`: the new value where they stand before, and the old one where they stand behind
   abbrev pub changed : StepKind → Number → Target → Run
   changed kind n t st =
-      bind (load t st) (λ old s.
+      bind (got t st) (λ old s.
       bind (calc (stepped kind.up n old) s) (λ new s1.
-      bind (store t new s1) (λ u s2. Gives (cond kind.before new old) s2)))
+      bind (store program t new s1) (λ u s2. Gives (cond kind.before new old) s2)))

@@ -5,10 +5,12 @@ use Rattle.activations.specs.declared.abrupt.Abrupt.TheVariants.{Throws}
 use Rattle.activations.specs.declared.abrupt.Raised.{Raised}
 use Rattle.apex_requests.specs.declared.reply.Outcome.TheVariants as O
 use Rattle.apex_requests.specs.declared.request.Ticket.{Ticket}
+use Rattle.apex_requests.specs.declared.request.Work.{Work}
+use Rattle.apex_requests.specs.declared.request.Work.TheVariants.{Apex, Save, Refused}
 use Rattle.apex_rows.specs.declared.query.Answer.{Answer}
 use Rattle.save_meaning.specs.Results.{Res, Gives, Stops, Leaves, Closes, Halts, Needs, Unfinished, Unbuilt}
 use Rattle.apex_meaning.specs.Refusals.{no_writes, refusal, not_yet}
-use Rattle.apex_meaning.specs.Runs.{Setting, ended, whole, first_state}
+use Rattle.apex_meaning.specs.Runs.{Setting, block_at, ended, whole, first_state}
 use Rattle.apex_meaning.specs.States.{State, World, Res as Comes}
 use Rattle.tenant_trails.specs.Runs.{Run, Asks, Ends}
 use Rattle.typed_program.specs.declared.program.Program.{Program}
@@ -44,3 +46,14 @@ block_does setting block st = does_all setting (rounds setting (names_of setting
 -- a block of a request, on a tape of answers
 abbrev pub block_run : Setting → List TypedStmt → List Answer → Run
 block_run setting block tape = run_of setting (block_does setting block (first_state tape))
+
+-- there is no block, or none without a fault
+abbrev pub run_or : Setting → Option (List TypedStmt) → List Answer → Run
+run_or setting None tape = Ends (refusal not_yet) no_writes
+run_or setting (Some block) tape = block_run setting block tape
+
+-- the work of a request, on a tape of answers: a block, a save, which isn't built yet, or one that is refused
+abbrev pub run : Setting → Work → List Answer → Run
+run setting (Apex n) tape = run_or setting (block_at setting.program n) tape
+run setting (Save op object all rows) tape = Ends (refusal not_yet) no_writes
+run setting (Refused fault) tape = Ends (refusal fault) no_writes

@@ -1,0 +1,11 @@
+pub mod Prepared
+pub mod Worlds
+pub mod Paid
+pub mod Saves
+pub mod Things
+pub mod Classes
+pub mod Places
+pub mod Trees
+pub mod Stmts
+pub mod Bodies
+pub mod Ends

@@ -1,0 +1,153 @@
+-- Variables, parts of paths and calls, where the ways back in are paid for.
+use Rattle.std.proofs.Common.{ℕ, suc, ◌+◌, Bool, true, false, cond, List, [], ◌∷◌, length, Option, None, Some, refl}
+use Rattle.std.specs.Prelude.{slice_get, slice_index_or}
+use Rattle.apex_num.specs.declared.kind.LimitKind.TheVariants.{Alloc}
+use Rattle.builtin_table.specs.declared.method.Builtin.TheVariants as B
+use Rattle.builtin_table.specs.declared.method.ListMethod.TheVariants as L
+use Rattle.heap_methods.specs.Operands.{or_null}
+use Rattle.platform_errors.specs.declared.thrown.Thrown.TheVariants.{NullObject, InvalidConversion}
+use Rattle.save_meaning.specs.Results.{Gives}
+use Rattle.apex_meaning.specs.Runs.{Setting}
+use Rattle.apex_meaning.specs.Expressions as Small
+use Rattle.apex_meaning.specs.States.{charge, with_line, set_local}
+use Rattle.apex_meaning.specs.Values.{null}
+use Rattle.txn_heap.specs.Statics.{static_at, with_static}
+use Rattle.txn_heap.specs.declared.thing.Thing.{Thing}
+use Rattle.txn_heap.specs.declared.thing.Thing.TheVariants as T
+use Rattle.txn_heap.specs.declared.thing.Value.{Value}
+use Rattle.txn_heap.specs.declared.thing.Value.TheVariants.{Plain, Object}
+use Rattle.typed_program.specs.declared.expr.Assignment.{Assignment}
+use Rattle.typed_program.specs.declared.expr.Constant.{Constant}
+use Rattle.typed_program.specs.declared.expr.Number.{Number}
+use Rattle.typed_program.specs.declared.expr.StepKind.{StepKind}
+use Rattle.typed_program.specs.declared.program.Program.{Program}
+use Rattle.value_operators.specs.Operators.{converted, stepped}
+use Rattle.value_texts.specs.Texts.{text_of}
+use Rattle.language_meaning.specs.Classes.{field_place, target}
+use Rattle.language_meaning.specs.Exceptions as X
+use Rattle.language_meaning.specs.Expressions as E
+use Rattle.language_meaning.specs.Meanings.{Again, Method, Run}
+use Rattle.language_meaning.specs.Places as Pl
+use Rattle.language_meaning.specs.Places.{Target, LocalAt, StaticAt, FieldAt, CellAt, ItemAt}
+use Rattle.language_meaning.specs.Preparing.{with_statics}
+use Rattle.language_meaning.specs.Preparing as Prep
+use Rattle.language_laws.proofs.Paid.{Paid, paid_gives, paid_puts, paid_bind, paid_charge, paid_throws, paid_unbuilt, paid_calc}
+use Rattle.language_laws.proofs.Prepared.{stay_written}
+use Rattle.language_laws.proofs.Worlds.{later_same, later_kept, later_line, later_statics}
+use Rattle.language_laws.proofs.Things.{paid_on_collection, paid_apply}
+use Rattle.language_laws.proofs.Classes.{Enough, paid_prepared, paid_call}
+
+module _ (program : Program) (n : ℕ) where
+  -- ---- fields of instances
+
+  field_of_thing : (place : ℕ) (o : Option Thing) → Paid program n (Pl.field_of_thing place o)
+  field_of_thing place (Some (T.Instance i)) = paid_gives program n (λ s. slice_index_or i.fields place null)
+  field_of_thing place o = paid_throws program n NullObject
+
+  pub paid_field_in : (place : ℕ) (v : Value) → Paid program n (Pl.field_in place v)
+  paid_field_in place (Plain c) = paid_throws program n NullObject
+  paid_field_in place (Object r) = record { at = λ st h lt. (field_of_thing place (slice_get st.world.heap r.place)).at st h lt }
+
+  set_in_thing : (place : ℕ) (v : Value) (at : ℕ) (o : Option Thing) → Paid program n (Pl.set_in_thing place v at o)
+  set_in_thing place v at (Some (T.Instance i)) = record { at = λ st h lt. record { holds = later_kept program st.world _ h refl refl refl } }
+  set_in_thing place v at o = paid_throws program n NullObject
+
+  pub paid_set_field : (place : ℕ) (o v : Value) → Paid program n (Pl.set_field place o v)
+  paid_set_field place (Plain c) v = paid_throws program n NullObject
+  paid_set_field place (Object r) v = record { at = λ st h lt. (set_in_thing place v r.place (slice_get st.world.heap r.place)).at st h lt }
+
+  -- ---- all variables
+
+  pub paid_load : (t : Target) → Paid program n (Pl.load program t)
+  paid_load (LocalAt x) = paid_gives program n (λ s. slice_index_or s.here.locals x null)
+  paid_load (StaticAt c k) = paid_gives program n (λ s. or_null (static_at c k s.world.statics))
+  paid_load (FieldAt v c k) = paid_field_in (field_place program c k) v
+  paid_load (CellAt v object field) = paid_unbuilt program n
+  paid_load (ItemAt list at) = paid_on_collection program n (B.List L.Get) list (at ∷ [])
+
+  pub paid_store : (t : Target) (v : Value) → Paid program n (Pl.store program t v)
+  paid_store (LocalAt x) v = paid_puts program n (λ s. tt) (set_local x v) (λ s h. later_same program s.world h)
+  paid_store (StaticAt c k) v = paid_puts program n (λ s. tt) (λ s. with_statics (with_static c k v s.world.statics) s) (λ s h. later_statics program s.world _ h (stay_written c k v s.world.statics))
+  paid_store (FieldAt o c k) v = paid_set_field (field_place program c k) o v
+  paid_store (CellAt o object field) v = paid_unbuilt program n
+  paid_store (ItemAt list at) v = paid_bind program n _ _ (paid_on_collection program n (B.List L.Set) list (at ∷ v ∷ [])) (λ u. paid_gives program n (λ s. tt))
+
+  -- ---- casts and constants
+
+  cast_if : (b : Bool) (v : Value) → Paid program n (E.cast_if b v)
+  cast_if true v = paid_gives program n (λ s. v)
+  cast_if false v = paid_throws program n InvalidConversion
+
+  pub paid_cast : (fits : X.Kind → Bool) (v : Value) → Paid program n (E.cast_to fits v)
+  paid_cast fits (Plain c) = paid_gives program n (λ s. Plain c)
+  paid_cast fits (Object r) = record { at = λ st h lt. (cast_if (fits (X.kind_of_thing (slice_get st.world.heap r.place))) (Object r)).at st h lt }
+
+  pub paid_constant : (b : Bool) (k : Constant) → Paid program n (Small.constant b k)
+  paid_constant true k = paid_gives program n (λ s. _)
+  paid_constant false k = paid_unbuilt program n
+
+module _ (setting : Setting) (again : Again) (p : ℕ) (enough : Enough setting.program again p) where
+  abbrev program : Program
+  program = setting.program
+
+  paid_ready : (t : Target) → Paid program (suc p) (Pl.ready program again t)
+  paid_ready (StaticAt c k) = paid_prepared program again p enough c
+  paid_ready (LocalAt x) = paid_gives program (suc p) (λ s. tt)
+  paid_ready (FieldAt v c k) = paid_gives program (suc p) (λ s. tt)
+  paid_ready (CellAt v object field) = paid_gives program (suc p) (λ s. tt)
+  paid_ready (ItemAt list at) = paid_gives program (suc p) (λ s. tt)
+
+  pub paid_got : (t : Target) → Paid program (suc p) (Pl.got program again t)
+  paid_got t = paid_bind program (suc p) (Pl.ready program again t) _ (paid_ready t) (λ u. paid_load program (suc p) t)
+
+  pub paid_assigned : (value : Run) (t : Target) → Paid program (suc p) value → Paid program (suc p) (Pl.assigned program again value t)
+  paid_assigned value t h =
+      paid_bind program (suc p) value _ h
+      (λ v. paid_bind program (suc p) (Pl.ready program again t) _ (paid_ready t)
+      (λ u. paid_bind program (suc p) (Pl.store program t v) _ (paid_store program (suc p) t v) (λ u1. paid_gives program (suc p) (λ s. v))))
+
+  pub paid_assigned_with : (how : Assignment) (value : Run) (t : Target) → Paid program (suc p) value → Paid program (suc p) (Pl.assigned_with program again how value t)
+  paid_assigned_with how value t h =
+      paid_bind program (suc p) (Pl.got program again t) _ (paid_got t)
+      (λ old. paid_bind program (suc p) value _ h
+      (λ v. paid_bind program (suc p) _ _ (paid_apply program (suc p) how.left how.op how.right old v)
+      (λ w. paid_bind program (suc p) _ _ (paid_calc program (suc p) (converted how.back w))
+      (λ x. paid_bind program (suc p) (Pl.store program t x) _ (paid_store program (suc p) t x) (λ u. paid_gives program (suc p) (λ s. x))))))
+
+  pub paid_changed : (kind : StepKind) (k : Number) (t : Target) → Paid program (suc p) (Pl.changed program again kind k t)
+  paid_changed kind k t =
+      paid_bind program (suc p) (Pl.got program again t) _ (paid_got t)
+      (λ old. paid_bind program (suc p) _ _ (paid_calc program (suc p) (stepped kind.up k old))
+      (λ new. paid_bind program (suc p) (Pl.store program t new) _ (paid_store program (suc p) t new) (λ u. paid_gives program (suc p) (λ s. cond kind.before new old))))
+
+  -- ---- debug lines and calls
+
+  pub paid_say : (names : List (List ℕ)) (v : Value) → Paid program (suc p) (E.say setting again names v)
+  paid_say names v = record {
+    at = λ st h lt.
+        (paid_bind program (suc p) (charge Alloc (16 + length (text_of setting.schema names st.world.heap v))) (λ u s. Gives null (with_line (text_of setting.schema names st.world.heap v) s))
+        (paid_charge program (suc p) Alloc (16 + length (text_of setting.schema names st.world.heap v)))
+        (λ u. paid_puts program (suc p) (λ s. null) (with_line (text_of setting.schema names st.world.heap v)) (λ s k. later_line program s.world (text_of setting.schema names st.world.heap v) k))).at st h lt;
+  }
+
+  pub paid_call_static : (c m : ℕ) (args : List Value) → Paid program (suc p) (E.call_static setting again c m args)
+  paid_call_static c m args = paid_bind program (suc p) (Prep.prepared program again c) _ (paid_prepared program again p enough c) (λ u. paid_call program again p enough (Method c m) args null)
+
+  call_found : (o : Option (ℕ × ℕ)) (args : List Value) (this : Value) → Paid program (suc p) (E.call_found setting again o args this)
+  call_found None args this = paid_throws program (suc p) NullObject
+  call_found (Some at) args this = paid_call program again p enough (Method at.0 at.1) args this
+
+  call_by_kind : (c m : ℕ) (k : X.Kind) (args : List Value) (this : Value) → Paid program (suc p) (E.call_by_kind setting again c m k args this)
+  call_by_kind c m (X.Declared k) args this = call_found (target program k c m) args this
+  call_by_kind c m (X.BuiltIn k) args this = paid_throws program (suc p) NullObject
+  call_by_kind c m X.Nothing args this = paid_throws program (suc p) NullObject
+
+  pub paid_call_on : (c m : ℕ) (virtual : Bool) (args : List Value) (v : Value) → Paid program (suc p) (E.call_on setting again c m virtual args v)
+  paid_call_on c m true args (Plain k) = paid_throws program (suc p) NullObject
+  paid_call_on c m false args (Plain k) = paid_throws program (suc p) NullObject
+  paid_call_on c m true args (Object r) = record { at = λ st h lt. (call_by_kind c m (X.kind_of_thing (slice_get st.world.heap r.place)) args (Object r)).at st h lt }
+  paid_call_on c m false args (Object r) = paid_call program again p enough (Method c m) args (Object r)
+
+  pub paid_chosen : (a b : Run) (x : Bool) → Paid program (suc p) a → Paid program (suc p) b → Paid program (suc p) (E.chosen setting again a b x)
+  paid_chosen a b true h k = h
+  paid_chosen a b false h k = k

@@ -1,0 +1,5 @@
+pub mod Known
+pub mod Stmts
+pub mod Classes
+pub mod First
+pub mod Second

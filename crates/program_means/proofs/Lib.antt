@@ -1,0 +1,10 @@
+pub mod Lists
+pub mod Unique
+pub mod Open
+pub mod Clauses
+pub mod Saves
+pub mod Statements
+pub mod Begins
+pub mod Bodies
+pub mod Rounds
+pub mod Correct

@@ -1,0 +1,12 @@
+pub mod Fetch
+pub mod Classes
+pub mod Simulates
+pub mod Frames
+pub mod OfValues
+pub mod OfLists
+pub mod OfThings
+pub mod Preparing
+pub mod OfPlaces
+pub mod OfCalls
+pub mod OfQueries
+pub mod Trees

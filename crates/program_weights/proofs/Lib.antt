@@ -1,0 +1,9 @@
+pub mod Codes
+pub mod Lefts
+pub mod Values
+pub mod Frames
+pub mod Places
+pub mod Controls
+pub mod Leaving
+pub mod Saves
+pub mod Falls
