@@ -14,9 +14,9 @@ use Rattle.apex_types.specs.Checks.{Check, Gives, checked, block_of, home_of}
 use Rattle.fault_words.specs.declared.fault.Fault.{Fault}
 use Rattle.record_store.specs.Places.{answer_to}
 use Rattle.session_runs.specs.Blocks.{RunsTo}
-use Rattle.stack_code.specs.declared.code.Image.{Image}
-use Rattle.stack_compiler.specs.Means.{Means}
-use Rattle.metered_vm.specs.Runs.{plain}
+use Rattle.program_code.specs.declared.image.Image.{Image}
+use Rattle.program_code.specs.Means.{Means}
+use Rattle.program_machine.specs.Runs.{plain}
 use Rattle.tenant_trails.specs.Runs.{Run, Asks, Ends, Follows, Evaluates}
 use Rattle.tenant_units.specs.Faults.{IsFaultOf}
 use Rattle.tenant_units.specs.Trees.{block_rule, block_name, IsBlock}
@@ -68,8 +68,8 @@ one_reply store run reply again writes more grabs asked e h =
 pub program_in : (s : Schema) (tree : Tree) (program : Program) → s ≡ schema → checked s.objects [] (tree ∷ []) ≡ Gives program → checked schema.objects [] (tree ∷ []) ≡ Gives program
 program_in s tree program e c = subst (λ (x : Schema). checked x.objects [] (tree ∷ []) ≡ Gives program) e c
 
-pub runs_in : (s : Schema) (t : Ticket) (image : Image) (reply : Reply) (writes : Writes) → s ≡ schema → t ≡ ticket → RunsTo s t image [] reply writes → RunsTo schema ticket image [] reply writes
-runs_in s t image reply writes e h r = subst (λ x. RunsTo x ticket image [] reply writes) e (subst (λ x. RunsTo s x image [] reply writes) h r)
+pub runs_in : (s : Schema) (t : Ticket) (image : Image) (reply : Reply) (writes : Writes) → s ≡ schema → t ≡ ticket → RunsTo s t image 0 [] reply writes → RunsTo schema ticket image 0 [] reply writes
+runs_in s t image reply writes e h r = subst (λ x. RunsTo x ticket image 0 [] reply writes) e (subst (λ x. RunsTo s x image 0 [] reply writes) h r)
 
 -- ---- the program of a tree
 
@@ -143,7 +143,7 @@ unbuilt bytes block reply writes fault b comes e input =
     run_and_refused input.reply.outcome fault (ap (λ (r : Reply). r.outcome) is ∙ e) input.runs
 
 pub made_of : (made : Made) (bytes : List ℕ) (block : List TypedStmt) (kept : Image) (image old : Option Image) (reply : Reply) (writes : Writes)
-    → IsOnlyBlock bytes block → Means block kept → RunsTo schema ticket kept [] reply writes → ComesTo block (plain reply) writes → IsTold reply made → image ≡ kept_of made kept old → old ≡ None
+    → IsOnlyBlock bytes block → Means (program_of (Ok block)) kept → RunsTo schema ticket kept 0 [] reply writes → ComesTo block (plain reply) writes → IsTold reply made → image ≡ kept_of made kept old → old ≡ None
     → Makes (Replied image) (IsRefused image) bytes made
 made_of (Text text) bytes block kept image old reply writes b m r comes t i o = record {
   block = block;

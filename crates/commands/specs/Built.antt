@@ -13,6 +13,7 @@ use Rattle.bundle_read.specs.declared.entries.SessionEntry.{SessionEntry}
 use Rattle.bundle_read.specs.declared.entries.TenantPlan.{TenantPlan}
 use Rattle.bundle_read.specs.declared.entries.WorkEntry.{WorkEntry}
 use Rattle.bundle_read.specs.declared.entries.WorkEntry.TheVariants.{Apex, Save}
+use Rattle.tenant_parts.specs.declared.part.TenantPart.{TenantPart}
 
 abbrev pub is_none : {A : Type 0} → List A → Bool
 is_none [] = true
@@ -60,6 +61,6 @@ are_few [] = true
 are_few (s ∷ []) = is_plain_session s
 are_few (s ∷ t ∷ ss) = false
 
--- a tenant without code, and with one session at most, whose requests are blocks
-abbrev pub is_built : TenantPlan → Bool
-is_built t = is_plain_schema t.schema && is_none t.units && are_few t.sessions
+-- a tenant, with its part, that has no triggers, and one session at most, whose requests are blocks
+abbrev pub is_built : TenantPlan → TenantPart → Bool
+is_built t part = is_plain_schema t.schema && is_none part.program.triggers && are_few t.sessions

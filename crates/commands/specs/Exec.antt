@@ -17,11 +17,12 @@ use Rattle.type_names.specs.declared.fault.TreeFault.{TreeFault}
 use Rattle.typed_program.specs.declared.program.Program.{Program}
 use Rattle.typed_program.specs.declared.stmt.TypedStmt.{TypedStmt}
 use Rattle.apex_types.specs.Checks.{Gives, checked}
-use Rattle.apex_meaning.specs.Runs.{Setting, run}
+use Rattle.apex_meaning.specs.Runs.{Setting}
+use Rattle.language_meaning.specs.Runs.{run}
 use Rattle.tenant_trails.specs.Runs.{Evaluates}
-use Rattle.stack_code.specs.declared.code.Image.{Image}
-use Rattle.stack_compiler.specs.Means.{Means}
-use Rattle.metered_vm.specs.Runs.{plain}
+use Rattle.program_code.specs.declared.image.Image.{Image}
+use Rattle.program_code.specs.Means.{Means}
+use Rattle.program_machine.specs.Runs.{plain}
 use Rattle.session_runs.specs.Blocks.{RunsTo}
 use Rattle.reply_text.specs.Lines.{fault_text, reply_text}
 use Rattle.commands.specs.Answers.{Answered, Outside}
@@ -80,7 +81,7 @@ pub record IsInput (bytes : List ℕ) : Type 0 where
 
 -- ---- the text of a run
 
--- the bytes are one block; the image that is kept is checked and means it; on the empty store its machine comes to this
+-- the bytes are one block; the image that is kept is checked and means the program that has it; on the empty store its machine comes to this
 -- reply, and counts so many steps; and the text is what is written of the reply
 pub record Replied (image : Option Image) (bytes text : List ℕ) : Type 0 where
   pub block : List TypedStmt
@@ -88,12 +89,12 @@ pub record Replied (image : Option Image) (bytes text : List ℕ) : Type 0 where
   pub only : (other : List TypedStmt) → IsTyped bytes other → other ≡ block
   pub kept : Image
   pub is_kept : image ≡ Some kept
-  pub means : Means block kept
+  pub means : Means (program_of (Ok block)) kept
   pub reply : Reply
   pub writes : Writes
   pub comes : ComesTo block (plain reply) writes
   pub runs : IsRun reply.outcome
-  pub machine : RunsTo schema ticket kept [] reply writes
+  pub machine : RunsTo schema ticket kept 0 [] reply writes
   pub prints : text ≡ reply_text reply
 
 -- ---- why bytes aren't run

@@ -9,7 +9,7 @@ use Rattle.tenant_units.specs.Trees.{block_name, IsBlock}
 use Rattle.type_names.specs.declared.fault.TreeFault.{TreeFault}
 use Rattle.typed_program.specs.declared.program.Program.{Program}
 use Rattle.typed_program.specs.declared.stmt.TypedStmt.{TypedStmt}
-use Rattle.stack_code.specs.declared.code.Image.{Image}
+use Rattle.program_code.specs.declared.image.Image.{Image}
 use Rattle.reply_text.specs.Lines.{reply_text}
 use Rattle.commands.specs.declared.answer.Made.{Made}
 use Rattle.commands.specs.declared.answer.Made.TheVariants.{Text, Line}
@@ -24,6 +24,10 @@ pub record IsOnlyTree (bytes : List ℕ) (tree : Tree) : Type 0 where
 pub record IsOnlyBlock (bytes : List ℕ) (block : List TypedStmt) : Type 0 where
   pub is : IsTyped bytes block
   pub only : (other : List TypedStmt) → IsTyped bytes other → other ≡ block
+
+-- a program has them as its only block, well typed
+abbrev pub HasOnlyBlock : List ℕ → Program → Type 0
+HasOnlyBlock bytes program = (block : List TypedStmt) × (program ≡ program_of (Ok block)) × IsOnlyBlock bytes block
 
 -- it has one block, well typed or not
 abbrev pub IsOfBlock : Program → Type 0

@@ -11,7 +11,7 @@ use Rattle.reply_text.specs.Reports.{report}
 use Rattle.tenant_parts.specs.declared.part.TenantPart.{TenantPart}
 use Rattle.tenant_front.specs.Parts.{IsPart, IsFrontFault}
 use Rattle.tenant_runs.specs.Tenants.{IsRan}
-use Rattle.stack_code.specs.declared.code.Image.{Image}
+use Rattle.program_code.specs.declared.image.Image.{Image}
 use Rattle.commands.specs.declared.answer.Made.{Made}
 use Rattle.commands.specs.declared.answer.Made.TheVariants.{Text, Line}
 use Rattle.commands.specs.Answers.{Answered, Outside}
@@ -27,17 +27,18 @@ not_yet_at place = record { place = place; word = NotYet }
 abbrev pub part_not_yet : Fault
 part_not_yet = not_yet_at (codes "part")
 
--- a tenant is deployed, its blocks are compiled, and it has its trail where it is alone in its bundle and built; otherwise it
+-- a tenant is deployed, its program is compiled, and it has its trail where it is alone in its bundle and built; otherwise it
 -- has a fault, no code and no events. What isn't built is told only where nothing else is wrong
-abbrev pub ComesBy : Bool → TenantPlan → Option Fault → List (Option Image) → List Event → Type 0
-ComesBy true plan None images trail = (part : TenantPart) × IsPart plan part × IsRan part images trail
-ComesBy false plan None images trail = ⊥
-ComesBy built plan (Some f) images trail = (images ≡ []) × (trail ≡ []) × (IsFrontFault plan f ⊎ ((built ≡ false) × ((part : TenantPart) × IsPart plan part) × (f ≡ part_not_yet)))
+abbrev pub IsRanBy : TenantPart → Option Image → List Event → Type 0
+IsRanBy part None trail = ⊥
+IsRanBy part (Some image) trail = IsRan part image trail
 
-abbrev pub Comes : Bool → TenantPlan → Option Fault → List (Option Image) → List Event → Type 0
-Comes alone plan fault images trail = ComesBy (alone && is_built plan) plan fault images trail
+abbrev pub Comes : Bool → TenantPlan → Option Fault → Option Image → List Event → Type 0
+Comes alone plan None image trail = (part : TenantPart) × IsPart plan part × ((alone && is_built plan part) ≡ true) × IsRanBy part image trail
+Comes alone plan (Some f) image trail =
+    (image ≡ None) × (trail ≡ []) × (IsFrontFault plan f ⊎ ((part : TenantPart) × IsPart plan part × ((alone && is_built plan part) ≡ false) × (f ≡ part_not_yet)))
 
-abbrev pub AllCome : Bool → List TenantPlan → List (Option Fault) → List (List (Option Image)) → List (List Event) → Type 0
+abbrev pub AllCome : Bool → List TenantPlan → List (Option Fault) → List (Option Image) → List (List Event) → Type 0
 AllCome alone [] faults images trails = (faults ≡ []) × (images ≡ []) × (trails ≡ [])
 AllCome alone (p ∷ ps) (f ∷ fs) (i ∷ is) (t ∷ ts) = Comes alone p f i t × AllCome alone ps fs is ts
 AllCome alone (p ∷ ps) _ _ _ = ⊥

@@ -7,6 +7,7 @@ ghost use Rattle.commands.specs.Built as spec;
 use apex_schema::Access;
 use bundle_read::{RequestEntry, SessionEntry, TenantPlan, WorkEntry};
 use schema_plans::{FieldPlan, ObjectPlan, PlanKind, SchemaPlan};
+use tenant_parts::TenantPart;
 
 fn is_plain_field(field: &FieldPlan) -> bool
     ensures { result ≡ spec.is_plain_field field.now }
@@ -75,10 +76,12 @@ fn are_few(sessions: &[SessionEntry]) -> bool
     }
 }
 
-/// Whether a tenant is one that is run so far: objects whose rows everybody may see, with fields that lead to no other row
-/// and aren't rolled up; no units; and at most one session, whose requests are blocks.
-pub fn is_built(plan: &TenantPlan) -> bool
-    ensures { result ≡ spec.is_built plan.now }
+/// Whether a tenant, with the part that it is, is one that is run so far: objects whose rows everybody may see, with fields that
+/// lead to no other row and aren't rolled up; no triggers; and at most one session, whose requests are blocks.
+pub fn is_built(plan: &TenantPlan, part: &TenantPart) -> bool
+    ensures { result ≡ spec.is_built plan.now part.now }
 {
-    is_plain_schema(&plan.schema) && plan.units.is_empty() && are_few(plan.sessions.as_slice())
+    is_plain_schema(&plan.schema)
+        && part.program.triggers.is_empty()
+        && are_few(plan.sessions.as_slice())
 }

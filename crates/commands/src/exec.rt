@@ -14,14 +14,15 @@ use apex_requests::{Outcome, Reply, Ticket};
 use apex_schema::Schema;
 use apex_syntax::Unit;
 use fault_words::Fault;
+use program_code::Image;
+use program_compiler::compile;
+use program_means::laws_of_images;
 use reply_text::{put_fault, put_reply};
 use session_runs::{laws_of_blocks, run_alone};
-use stack_code::Image;
-use stack_compiler::compile;
 use std::alloc::{AllocError, Global};
 use tenant_units::{UnitFault, block_tree, fault_at};
 use type_names::TreeFault;
-use typed_program::TypedStmt;
+use typed_program::Program;
 
 // The status where the bytes are no block that runs.
 const REFUSED: u8 = 7;
@@ -97,7 +98,7 @@ fn judged(
     let schema = exec_schema(alloc)?;
     let program = program_of(alloc, &schema, tree)?;
     match block_in(&program) {
-        Ok(block) => ran(alloc, bytes, &schema, block, image),
+        Ok(_) => ran(alloc, bytes, &schema, &program, image),
         Err(fault) => ill_typed(alloc, bytes, fault),
     }
 }
@@ -114,22 +115,23 @@ fn ticket() -> Ticket
     }
 }
 
-// What is made of a well-typed block.
+// What is made of a program that has a well-typed block.
 fn ran(
     alloc: Global,
     bytes: &[u8],
     schema: &Schema,
-    block: &[TypedStmt],
+    program: &Program,
     image: &mut Option<Image>,
 ) -> Result<Made, NoMemory>
-    requires block { shown.IsOnlyBlock bytes.now block.now }
+    requires block { shown.HasOnlyBlock bytes.now program.now }
     requires schema { schema.now ≡ spec.schema }
     requires image { image.old ≡ None }
     ensures { IfOk result (Makes (spec.Replied image.new) (spec.IsRefused image.new) bytes.now) }
 {
     laws_of_blocks();
-    let kept = compile(alloc, block)?;
-    let (reply, _) = run_alone(alloc, &kept, schema, ticket())?;
+    laws_of_images();
+    let kept = compile(alloc, program)?;
+    let (reply, _) = run_alone(alloc, &kept, 0, schema, ticket())?;
     let made = told(alloc, &reply)?;
     keep(&made, kept, image);
     Ok(made)

@@ -1,10 +1,10 @@
 // The sessions of a bundle, in order.
 
-ghost use Rattle.std.specs.Prelude.{◌≡◌, ◌≤◌, ◌+◌, [], eqb, length, true, IfOk, Some};
+ghost use Rattle.std.specs.Prelude.{◌≡◌, ◌≤◌, ◌+◌, [], eqb, length, true, IfOk, None, Some};
 ghost use Rattle.tenant_front.specs.Parts.{IsPart};
 ghost use Rattle.bundle_read.specs.Laws.{AreBounded, IsBounded};
 ghost use Rattle.commands.specs.Answers.{Cause, Makes, most_bytes};
-ghost use Rattle.commands.specs.Built.{is_built as is_built_plan};
+ghost use Rattle.commands.specs.Built.{is_built as is_built_part};
 ghost use Rattle.commands.specs.Turns as spec;
 
 use crate::answer::{Answer, Made, input, output, status};
@@ -15,8 +15,8 @@ use apex_num::{NoMemory, Text};
 use apex_requests::Event;
 use bundle_read::{Bundle, BundleFault, TenantPlan, laws_of_bundles, read_bundle};
 use fault_words::{Fault, FaultWord};
+use program_code::Image;
 use reply_text::{put_escaped, report, word};
-use stack_code::Image;
 use std::alloc::{AllocError, Global};
 use tenant_front::{FrontFault, front};
 use tenant_parts::TenantPart;
@@ -28,16 +28,16 @@ const BAD_BUNDLE: u8 = 3;
 /// What a run leaves: of each tenant of its bundle the compiled code and the trail.
 #[derive(Drop)]
 pub struct Book {
-    /// The images of each tenant's blocks, by the blocks' numbers from 0; none where a block's code has a fault.
-    pub images: Items<Items<Option<Image>>>,
+    /// The image of each tenant's program; none where the tenant isn't deployed.
+    pub images: Items<Option<Image>>,
     pub trails: Items<Items<Event>>,
 }
 
-// What a tenant comes to: its fault or none, its images and its trail.
+// What a tenant comes to: its fault or none, its image and its trail.
 #[derive(Drop)]
 struct Came {
     fault: Option<Fault>,
-    images: Items<Option<Image>>,
+    image: Option<Image>,
     trail: Items<Event>,
 }
 
@@ -45,7 +45,7 @@ struct Came {
 #[derive(Drop)]
 struct AllCame {
     faults: Items<Option<Fault>>,
-    images: Items<Items<Option<Image>>>,
+    images: Items<Option<Image>>,
     trails: Items<Items<Event>>,
 }
 
@@ -62,37 +62,37 @@ fn not_yet(alloc: Global, place: &str) -> Result<Fault, NoMemory>
 fn deployed(alloc: Global, plan: &TenantPlan, part: TenantPart) -> Result<Came, NoMemory>
     requires part { IsPart plan.now part }
     requires bounds { IsBounded plan.now }
-    requires built { is_built_plan plan.now ≡ true }
-    ensures { IfOk result (λ came. spec.ComesBy true plan.now came.fault came.images came.trail) }
+    requires built { is_built_part plan.now part ≡ true }
+    ensures { IfOk result (λ came. spec.Comes true plan.now came.fault came.image came.trail) }
 {
     laws_of_parts();
-    let Ran { images, trail } = run_tenant(alloc, part)?;
+    let Ran { image, trail } = run_tenant(alloc, part)?;
     Ok(Came {
         fault: None,
-        images,
+        image: Some(image),
         trail,
     })
 }
 
 fn undeployed(alloc: Global, fault: Fault) -> Came
     ensures fault { result.fault ≡ Some fault }
-    ensures images { result.images ≡ [] }
+    ensures image { result.image ≡ None }
     ensures trail { result.trail ≡ [] }
 {
     Came {
         fault: Some(fault),
-        images: Items::new(alloc),
+        image: None,
         trail: Items::new(alloc),
     }
 }
 
 fn came_of(alloc: Global, alone: bool, plan: &TenantPlan) -> Result<Came, NoMemory>
     requires bounds { IsBounded plan.now }
-    ensures { IfOk result (λ came. spec.Comes alone plan.now came.fault came.images came.trail) }
+    ensures { IfOk result (λ came. spec.Comes alone plan.now came.fault came.image came.trail) }
 {
     match front(alloc, plan) {
         Ok(part) => {
-            if alone && is_built(plan) {
+            if alone && is_built(plan, &part) {
                 deployed(alloc, plan, part)
             } else {
                 Ok(undeployed(alloc, not_yet(alloc, "part")?))
@@ -114,11 +114,11 @@ fn all_came(alloc: Global, tenants: &[TenantPlan]) -> Result<AllCame, NoMemory>
     'tenants: for t in 0..tenants.len() {
         let Came {
             fault,
-            images,
+            image,
             trail,
         } = came_of(alloc, alone, &tenants[t])?;
         faults.push(fault)?;
-        all_images.push(images)?;
+        all_images.push(image)?;
         trails.push(trail)?;
     }
     Ok(AllCame {

@@ -12,19 +12,21 @@ use Rattle.record_store.specs.Places.{answer_to}
 use Rattle.save_procedure.specs.Does.{IsRead}
 use Rattle.tenant_trails.specs.Runs as Trail
 use Rattle.tenant_trails.specs.Runs.{Follows, Evaluates, ids_asked, ids_of_run, grabs_on}
-use Rattle.stack_code.specs.declared.code.Image.{Image}
-use Rattle.stack_code.specs.Machine.{start}
-use Rattle.stack_compiler.specs.Means.{Means}
-use Rattle.apex_meaning.specs.Runs.{block_run}
+use Rattle.apex_meaning.specs.Runs.{Setting, block_at}
+use Rattle.language_meaning.specs.Runs.{block_run}
+use Rattle.program_code.specs.Means.{Means}
+use Rattle.program_code.specs.Runs.{start}
+use Rattle.program_code.specs.declared.image.Image.{Image}
+use Rattle.typed_program.specs.declared.program.Program.{Program}
 use Rattle.typed_program.specs.declared.stmt.TypedStmt.{TypedStmt}
-use Rattle.metered_vm.specs.declared.run.Pause.TheVariants as P
-use Rattle.metered_vm.specs.declared.run.Vm.{Vm}
+use Rattle.program_machine.specs.declared.run.Pause.TheVariants as P
+use Rattle.program_machine.specs.declared.run.Vm.{Vm}
 use Rattle.tenant_core.specs.Logs.{AreCurrent, AsksRows, IsCurrent}
 use Rattle.tenant_core.specs.declared.log.Log.{Log}
 use Rattle.tenant_core.specs.Shards.{Shared}
 use Rattle.record_store.specs.Heaps.{rows_in}
-use Rattle.metered_vm.specs.Keeps.{Stands}
-use Rattle.metered_vm.specs.Runs.{Comes, Ran, Pauses, Waits, plain, told}
+use Rattle.program_machine.specs.Keeps.{Stands}
+use Rattle.program_machine.specs.Runs.{Comes, Ran, Pauses, Waits, plain, told}
 use Rattle.session_runs.specs.Blocks.{Answered, RunsTo, IsAt, told_of}
 use Rattle.session_runs.specs.Laws.{ImagesEvaluateBlocks}
 
@@ -52,20 +54,20 @@ log_none rows log asked answers = subst (λ qs. AreCurrent rows qs log.answers) 
 pub log_same : (tenant : ℕ) (one other : Shared) (log : Log) → one ≡ other → IsCurrent (rows_in tenant other.rows) log → IsCurrent (rows_in tenant one.rows) log
 log_same tenant one other log e h = subst (λ s. IsCurrent (rows_in tenant s.rows) log) (sym e) h
 
-module _ (schema : Schema) (ticket : Ticket) (image : Image) (store : List Row) where
+module _ (schema : Schema) (ticket : Ticket) (image : Image) (n : ℕ) (store : List Row) where
   -- one question and its answer more
-  answered_more : (before tape : List Answer) (q : Question) (a : Answer) (n : ℕ) → Answered schema ticket image store before tape → IsRead q → Comes schema ticket image start (before ++ tape) n (Trail.Asks q) → a ≡ answer_to store q →
-      Answered schema ticket image store before (tape ++ a ∷ [])
-  answered_more before [] q a n h r c e = (q, r, (n, subst (λ t. Comes schema ticket image start t n (Trail.Asks q)) (append-nil before) c), e, tt)
-  answered_more before (b ∷ tape) q a n h r c e =
-      (h.0, h.1, h.2, h.3, answered_more (before ++ b ∷ []) tape q a n h.4 r (subst (λ t. Comes schema ticket image start t n (Trail.Asks q)) (sym (append_assoc before (b ∷ []) tape)) c) e)
+  answered_more : (before tape : List Answer) (q : Question) (a : Answer) (k : ℕ) → Answered schema ticket image n store before tape → IsRead q → Comes schema ticket image (start n) (before ++ tape) k (Trail.Asks q) → a ≡ answer_to store q →
+      Answered schema ticket image n store before (tape ++ a ∷ [])
+  answered_more before [] q a k h r c e = (q, r, (k, subst (λ t. Comes schema ticket image (start n) t k (Trail.Asks q)) (append-nil before) c), e, tt)
+  answered_more before (b ∷ tape) q a k h r c e =
+      (h.0, h.1, h.2, h.3, answered_more (before ++ b ∷ []) tape q a k h.4 r (subst (λ t. Comes schema ticket image (start n) t k (Trail.Asks q)) (sym (append_assoc before (b ∷ []) tape)) c) e)
 
-  pub at_first : (vm : Vm) → Ran schema ticket image [] vm.ops vm.config → Stands image vm.config → IsAt schema ticket image store vm None
+  pub at_first : (vm : Vm) → Ran schema ticket image n [] vm.ops vm.config → Stands image vm.config → IsAt schema ticket image n store vm None
   at_first vm r s = record { tape = []; answered = tt; ran = r; stands = s }
 
   -- where it asked, it stands so with the answer
-  pub at_next : (old : Vm) (before : Option Answer) (q : Question) (vm : Vm) (a : Answer) → IsAt schema ticket image store old before → a ≡ answer_to store q →
-      ((tape : List Answer) → Ran schema ticket image tape old.ops (told before old.config) → Pauses schema ticket image tape (P.Need q) vm) → Waits image (P.Need q) vm → IsAt schema ticket image store vm (Some a)
+  pub at_next : (old : Vm) (before : Option Answer) (q : Question) (vm : Vm) (a : Answer) → IsAt schema ticket image n store old before → a ≡ answer_to store q →
+      ((tape : List Answer) → Ran schema ticket image n tape old.ops (told before old.config) → Pauses schema ticket image n tape (P.Need q) vm) → Waits image (P.Need q) vm → IsAt schema ticket image n store vm (Some a)
   at_next old before q vm a s e h w =
       let p = h s.tape s.ran in record {
         tape = s.tape ++ a ∷ [];
@@ -74,20 +76,23 @@ module _ (schema : Schema) (ticket : Ticket) (image : Image) (store : List Row) 
         stands = w.0;
       }
 
-  pub at_end : (old : Vm) (before : Option Answer) (reply : Reply) (writes : Writes) (vm : Vm) → IsAt schema ticket image store old before →
-      ((tape : List Answer) → Ran schema ticket image tape old.ops (told before old.config) → Pauses schema ticket image tape (P.End reply writes) vm) →
-      RunsTo schema ticket image store (record reply { ops = told_of reply.outcome reply.ops }) writes
+  pub at_end : (old : Vm) (before : Option Answer) (reply : Reply) (writes : Writes) (vm : Vm) → IsAt schema ticket image n store old before →
+      ((tape : List Answer) → Ran schema ticket image n tape old.ops (told before old.config) → Pauses schema ticket image n tape (P.End reply writes) vm) →
+      RunsTo schema ticket image n store (record reply { ops = told_of reply.outcome reply.ops }) writes
   at_end old before reply writes vm s h =
       let p = h s.tape s.ran in
       record { tape = s.tape; answered = s.answered; steps = p.0; comes = p.1; ops = ap (λ n. told_of reply.outcome n) p.2 }
 
   -- ---- the block that the image means
 
-  module _ (block : List TypedStmt) (m : Means block image) where
-    asks : (tape : List Answer) (n : ℕ) (r : Trail.Run) → Comes schema ticket image start tape n r → block_run (record { schema = schema; ticket = ticket }) block tape ≡ r
-    asks tape n r c = sym (m.only (record { schema = schema; ticket = ticket }) tape n r c)
+  module _ (program : Program) (block : List TypedStmt) (m : Means program image) (at : block_at program n ≡ Some block) where
+    abbrev setting : Setting
+    setting = record { schema = schema; program = program; ticket = ticket }
 
-    follows : (before tape : List Answer) → Answered schema ticket image store before tape → Follows store (block_run (record { schema = schema; ticket = ticket }) block) before tape
+    asks : (tape : List Answer) (k : ℕ) (r : Trail.Run) → Comes schema ticket image (start n) tape k r → block_run setting block tape ≡ r
+    asks tape k r c = sym (m.only setting refl n block at tape k r c)
+
+    follows : (before tape : List Answer) → Answered schema ticket image n store before tape → Follows store (block_run setting block) before tape
     follows before [] h = tt
     follows before (a ∷ tape) h = (h.0, asks before h.2.0 (Trail.Asks h.0) h.2.1, h.3, follows (before ++ a ∷ []) tape h.4)
 
@@ -95,13 +100,13 @@ module _ (schema : Schema) (ticket : Ticket) (image : Image) (store : List Row) 
     none_alone (Read object cond) r = refl
     none_alone (Grab ids) r = absurd r
 
-    no_grabs : (before tape : List Answer) → Answered schema ticket image store before tape → [] ≡ grabs_on (block_run (record { schema = schema; ticket = ticket }) block) before tape
+    no_grabs : (before tape : List Answer) → Answered schema ticket image n store before tape → [] ≡ grabs_on (block_run setting block) before tape
     no_grabs before [] h = refl
     no_grabs before (a ∷ tape) h =
         no_grabs (before ++ a ∷ []) tape h.4
-        ∙ ap (λ ids. ids ++ grabs_on (block_run (record { schema = schema; ticket = ticket }) block) (before ++ a ∷ []) tape) (sym (ap ids_of_run (asks before h.2.0 (Trail.Asks h.0) h.2.1) ∙ none_alone h.0 h.1))
+        ∙ ap (λ ids. ids ++ grabs_on (block_run setting block) (before ++ a ∷ []) tape) (sym (ap ids_of_run (asks before h.2.0 (Trail.Asks h.0) h.2.1) ∙ none_alone h.0 h.1))
 
-    pub evaluates : (reply : Reply) (writes : Writes) → RunsTo schema ticket image store reply writes → Evaluates store (block_run (record { schema = schema; ticket = ticket }) block) (plain reply) writes []
+    pub evaluates : (reply : Reply) (writes : Writes) → RunsTo schema ticket image n store reply writes → Evaluates store (block_run setting block) (plain reply) writes []
     evaluates reply writes r = record {
       tape = r.tape;
       follows = follows [] r.tape r.answered;
@@ -110,4 +115,4 @@ module _ (schema : Schema) (ticket : Ticket) (image : Image) (store : List Row) 
     }
 
 pub images_evaluate : ImagesEvaluateBlocks
-images_evaluate schema ticket block image store reply writes m r = evaluates schema ticket image store block m reply writes r
+images_evaluate schema program ticket image n block store reply writes m at r = evaluates schema ticket image n store program block m at reply writes r

@@ -1,5 +1,5 @@
 -- One attempt in a shard.
-use Rattle.std.proofs.Common.{◌≡◌, ℕ, suc, zero, ◌<◌, List, [], ◌∷◌, length, Option, Some, refl, sym, ap, ◌∙◌, subst}
+use Rattle.std.proofs.Common.{◌≡◌, ℕ, suc, zero, ◌<◌, List, [], ◌∷◌, length, Some, refl, sym, ap, ◌∙◌, subst}
 use Rattle.apex_rows.specs.declared.query.Answer.{Answer}
 use Rattle.apex_rows.specs.declared.query.Question.{Question}
 use Rattle.apex_requests.specs.declared.reply.Reply.{Reply}
@@ -15,7 +15,7 @@ use Rattle.tenant_core.specs.Logs.{AreCurrent, IsCurrent, IsStale, IsStaleAt}
 use Rattle.tenant_core.specs.declared.log.Log.{Log}
 use Rattle.tenant_core.specs.Shards.{Shared, Closing, told_at}
 use Rattle.tenant_trails.specs.Legal.{Session, begun}
-use Rattle.stack_code.specs.declared.code.Image.{Image}
+use Rattle.program_code.specs.declared.image.Image.{Image}
 use Rattle.session_runs.specs.Sessions.{closed_session, EndsWork, IsRun, StandsAt, ticket_of}
 use Rattle.session_runs.proofs.Legality.{in_mid, in_old, may_end}
 
@@ -50,16 +50,16 @@ module _ (tenant i : ℕ) (old mid work : Shared) (same : work ≡ mid) (stands 
   pub may_close : i < 1000000 → MayEnd (told_at tenant work.tenants) 0
   may_close lt = subst (λ s. MayEnd (told_at tenant s.tenants) 0) (sym same) (may_end i (told_at tenant old.tenants) (told_at tenant mid.tenants) lt stands begins)
 
-  pub run_is : (schema : Schema) (images : List (Option Image)) (r : Request) (ticket : Ticket) (reply : Reply) (writes : Writes) (log : Log) (new : Shared) → mid.rows ≡ old.rows → ticket ≡ ticket_of r 0 i →
-      EndsWork schema ticket images r.work (rows_in tenant mid.rows) reply writes → Closing tenant 0 log reply writes work new →
-      IsRun schema images r i (rows_in tenant old.rows) (told_at tenant old.tenants) (rows_in tenant new.rows) (told_at tenant new.tenants)
-  run_is schema images r ticket reply writes log new rows is ends closing =
+  pub run_is : (schema : Schema) (image : Image) (r : Request) (ticket : Ticket) (reply : Reply) (writes : Writes) (log : Log) (new : Shared) → mid.rows ≡ old.rows → ticket ≡ ticket_of r 0 i →
+      EndsWork schema ticket image r.work (rows_in tenant mid.rows) reply writes → Closing tenant 0 log reply writes work new →
+      IsRun schema image r i (rows_in tenant old.rows) (told_at tenant old.tenants) (rows_in tenant new.rows) (told_at tenant new.tenants)
+  run_is schema image r ticket reply writes log new rows is ends closing =
       let here = ap (λ h. rows_in tenant h) rows in
       let closes = subst (λ s. Closing tenant 0 log reply writes s new) same closing in
       record {
         reply = reply;
         writes = writes;
-        ends = subst (λ store. EndsWork schema (ticket_of r 0 i) images r.work store reply writes) here (subst (λ t. EndsWork schema t images r.work (rows_in tenant mid.rows) reply writes) is ends);
+        ends = subst (λ store. EndsWork schema (ticket_of r 0 i) image r.work store reply writes) here (subst (λ t. EndsWork schema t image r.work (rows_in tenant mid.rows) reply writes) is ends);
         mid = told_at tenant mid.tenants;
         starts = begins;
         closes = closes.closes (record { closed = i; running = Some (begun i) }) (in_mid i (told_at tenant old.tenants) (told_at tenant mid.tenants) stands begins);

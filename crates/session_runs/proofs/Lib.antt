@@ -1,4 +1,3 @@
 pub mod Asked
 pub mod Legality
 pub mod Attempts
-pub mod Imaged

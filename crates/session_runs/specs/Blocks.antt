@@ -12,11 +12,11 @@ use Rattle.apex_schema.specs.declared.schema.Schema.{Schema}
 use Rattle.record_store.specs.Places.{answer_to}
 use Rattle.save_procedure.specs.Does.{IsRead}
 use Rattle.tenant_trails.specs.Runs as Trail
-use Rattle.stack_code.specs.declared.code.Image.{Image}
-use Rattle.stack_code.specs.Machine.{start}
-use Rattle.metered_vm.specs.declared.run.Vm.{Vm}
-use Rattle.metered_vm.specs.Keeps.{Stands}
-use Rattle.metered_vm.specs.Runs.{Comes, Ran, ops_of, most_told, plain, told}
+use Rattle.program_code.specs.Runs.{start}
+use Rattle.program_code.specs.declared.image.Image.{Image}
+use Rattle.program_machine.specs.declared.run.Vm.{Vm}
+use Rattle.program_machine.specs.Keeps.{Stands}
+use Rattle.program_machine.specs.Runs.{Comes, Ran, ops_of, most_told, plain, told}
 
 -- the number of steps that a reply tells: a refused one tells none
 abbrev pub told_of : Outcome → ℕ → ℕ
@@ -25,25 +25,25 @@ told_of (Thrown c m) n = n
 told_of (Limit k l) n = n
 told_of (Refused f) n = 0
 
-module _ (schema : Schema) (ticket : Ticket) (image : Image) (store : List Row) where
+module _ (schema : Schema) (ticket : Ticket) (image : Image) (block : ℕ) (store : List Row) where
   -- each answer of a tape is the store's to what the machine asks on those before it, which are rows that others may see
   abbrev pub Answered : List Answer → List Answer → Type 0
   Answered before [] = Unit {0}
   Answered before (a ∷ more) =
-      (q : Question) × IsRead q × ((n : ℕ) × Comes schema ticket image start before n (Trail.Asks q)) × (a ≡ answer_to store q) × Answered (before ++ a ∷ []) more
+      (q : Question) × IsRead q × ((n : ℕ) × Comes schema ticket image (start block) before n (Trail.Asks q)) × (a ≡ answer_to store q) × Answered (before ++ a ∷ []) more
 
-  -- on the store's answers the machine comes to this reply, with the number of its steps unless it is refused, and these
+  -- from the start of the block the machine comes on the store's answers to this reply, with the number of its steps unless it is refused, and these
   -- writes
   pub record RunsTo (reply : Reply) (writes : Writes) : Type 0 where
     pub tape : List Answer
     pub answered : Answered [] tape
     pub steps : ℕ
-    pub comes : Comes schema ticket image start tape steps (Trail.Ends (plain reply) writes)
-    pub ops : reply.ops ≡ told_of reply.outcome (min (ops_of schema ticket image steps start tape) most_told)
+    pub comes : Comes schema ticket image (start block) tape steps (Trail.Ends (plain reply) writes)
+    pub ops : reply.ops ≡ told_of reply.outcome (min (ops_of schema ticket image steps (start block) tape) most_told)
 
   -- where it stands before it goes on: on these answers, the last of which may be given still
   pub record IsAt (vm : Vm) (answer : Option Answer) : Type 0 where
     pub tape : List Answer
     pub answered : Answered [] tape
-    pub ran : Ran schema ticket image tape vm.ops (told answer vm.config)
+    pub ran : Ran schema ticket image block tape vm.ops (told answer vm.config)
     pub stands : Stands image vm.config

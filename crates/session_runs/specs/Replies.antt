@@ -10,7 +10,7 @@ use Rattle.apex_rows.specs.declared.row.Writes.{Writes}
 use Rattle.apex_schema.specs.declared.schema.Schema.{Schema}
 use Rattle.tenant_trails.specs.Legal.{Open, Session, State, Step, first_state}
 use Rattle.tenant_trails.specs.Runs.{Tenant}
-use Rattle.stack_code.specs.declared.code.Image.{Image}
+use Rattle.program_code.specs.declared.image.Image.{Image}
 use Rattle.session_runs.specs.Sessions.{EndsWork, request_at, ticket_of}
 
 -- the open request of a session
@@ -18,11 +18,11 @@ abbrev pub open_in : Option Session → Option Open
 open_in None = None
 open_in (Some session) = session.running
 
-module _ (schema : Schema) (images : List (Option Image)) (requests : List (List Request)) where
+module _ (schema : Schema) (image : Image) (requests : List (List Request)) where
   -- on these rows the request comes to the reply by its image, its steps told with it
   abbrev pub Replies : List Row → ℕ → ℕ → Option Request → Reply → Type 0
   Replies store s i None reply = ⊥
-  Replies store s i (Some r) reply = (writes : Writes) × EndsWork schema (ticket_of r s i) images r.work store reply writes
+  Replies store s i (Some r) reply = (writes : Writes) × EndsWork schema (ticket_of r s i) image r.work store reply writes
 
   abbrev pub RepliesOpen : List Row → ℕ → Option Open → Reply → Type 0
   RepliesOpen store s None reply = ⊥

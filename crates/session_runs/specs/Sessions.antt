@@ -1,5 +1,5 @@
 -- What the requests of a session do, and what is said of those that were run (docs/platform.md, "Trails").
-use Rattle.std.specs.Prelude.{◌≡◌, ◌<◌, ℕ, suc, List, [], ◌∷◌, length, map, slice_get, Option, None, Some, Result}
+use Rattle.std.specs.Prelude.{◌≡◌, ◌<◌, ℕ, suc, List, [], ◌∷◌, length, map, slice_get, Option, None, Some}
 use Rattle.apex_rows.specs.declared.query.Answer.{Answer}
 use Rattle.apex_requests.specs.declared.reply.Reply.{Reply}
 use Rattle.apex_requests.specs.declared.request.Request.{Request}
@@ -16,42 +16,11 @@ use Rattle.apex_meaning.specs.Refusals.{refusal, not_yet, no_writes}
 use Rattle.tenant_trails.specs.States.{Told, Starts, Ends as Closes}
 use Rattle.tenant_trails.specs.Legal.{Session, begun, some_writes}
 use Rattle.tenant_trails.specs.Runs.{Run, Ends, Tenant}
-use Rattle.stack_code.specs.declared.code.Image.{Image}
-use Rattle.stack_code.specs.Checked.{IsChecked}
-use Rattle.stack_compiler.specs.Means.{Means}
-use Rattle.apex_meaning.specs.Runs.{run, stmts_of}
-use Rattle.type_names.specs.declared.fault.TreeFault.{TreeFault}
+use Rattle.language_meaning.specs.Runs.{run}
+use Rattle.program_code.specs.Means.{block_in}
+use Rattle.program_code.specs.declared.image.Code.{Code}
+use Rattle.program_code.specs.declared.image.Image.{Image}
 use Rattle.typed_program.specs.declared.program.Program.{Program}
-use Rattle.typed_program.specs.declared.stmt.TypedStmt.{TypedStmt}
-
--- ---- blocks and images by their numbers
-
-abbrev pub or_none : {A : Type 0} → Option (Option A) → Option A
-or_none None = None
-or_none (Some found) = found
-
-abbrev pub there : {A : Type 0} → List (Option A) → ℕ → Option A
-there all n = or_none (slice_get all n)
-
-abbrev pub IsCheckedOr : Option Image → Type 0
-IsCheckedOr None = Unit {0}
-IsCheckedOr (Some image) = IsChecked image
-
-abbrev pub AreChecked : List (Option Image) → Type 0
-AreChecked [] = Unit {0}
-AreChecked (i ∷ is) = IsCheckedOr i × AreChecked is
-
--- there is an image where there is a block, and it means that
-abbrev pub IsImage : Option (List TypedStmt) → Option Image → Type 0
-IsImage None None = Unit {0}
-IsImage (Some block) (Some image) = Means block image
-IsImage _ _ = ⊥
-
--- so it is for each block of a program, by their numbers
-abbrev pub AreImages : List (Result (List TypedStmt) TreeFault) → List (Option Image) → Type 0
-AreImages [] [] = Unit {0}
-AreImages (b ∷ bs) (i ∷ is) = IsImage (stmts_of b) i × AreImages bs is
-AreImages _ _ = ⊥
 
 -- ---- what a request does
 
@@ -86,14 +55,15 @@ HaveUsers (r ∷ rs) = (suc r.user < most) × HaveUsers rs
 
 -- ---- what was run
 
-abbrev pub EndsBlock : Schema → Ticket → Option Image → List Row → Reply → Writes → Type 0
-EndsBlock schema ticket None store reply writes = (reply ≡ refusal not_yet) × (writes ≡ no_writes)
-EndsBlock schema ticket (Some image) store reply writes = RunsTo schema ticket image store reply writes
+-- a block that an image has no code of is refused
+abbrev pub EndsBlock : Schema → Ticket → Image → ℕ → Option Code → List Row → Reply → Writes → Type 0
+EndsBlock schema ticket image n None store reply writes = (reply ≡ refusal not_yet) × (writes ≡ no_writes)
+EndsBlock schema ticket image n (Some code) store reply writes = RunsTo schema ticket image n store reply writes
 
-abbrev pub EndsWork : Schema → Ticket → List (Option Image) → Work → List Row → Reply → Writes → Type 0
-EndsWork schema ticket images (Apex n) store reply writes = EndsBlock schema ticket (there images n) store reply writes
-EndsWork schema ticket images (Save op object all rows) store reply writes = (reply ≡ refusal not_yet) × (writes ≡ no_writes)
-EndsWork schema ticket images (Refused f) store reply writes = (reply ≡ refusal f) × (writes ≡ no_writes)
+abbrev pub EndsWork : Schema → Ticket → Image → Work → List Row → Reply → Writes → Type 0
+EndsWork schema ticket image (Apex n) store reply writes = EndsBlock schema ticket image n (block_in image n) store reply writes
+EndsWork schema ticket image (Save op object all rows) store reply writes = (reply ≡ refusal not_yet) × (writes ≡ no_writes)
+EndsWork schema ticket image (Refused f) store reply writes = (reply ≡ refusal f) × (writes ≡ no_writes)
 
 -- the one session has closed so many requests, and none is open
 abbrev pub closed_session : ℕ → Session
@@ -107,10 +77,10 @@ abbrev pub IsNew : Told → Type 0
 IsNew told = StandsAt 0 told × (told.events ≡ [])
 
 -- the next request was opened, run on the rows as they were, and closed, and its writes were taken
-pub record IsRun (schema : Schema) (images : List (Option Image)) (r : Request) (i : ℕ) (before : List Row) (old : Told) (after : List Row) (new : Told) : Type 0 where
+pub record IsRun (schema : Schema) (image : Image) (r : Request) (i : ℕ) (before : List Row) (old : Told) (after : List Row) (new : Told) : Type 0 where
   pub reply : Reply
   pub writes : Writes
-  pub ends : EndsWork schema (ticket_of r 0 i) images r.work before reply writes
+  pub ends : EndsWork schema (ticket_of r 0 i) image r.work before reply writes
   pub mid : Told
   pub starts : Starts old 0 (closed_session i) mid
   pub closes : Closes mid 0 (record { closed = i; running = Some (begun i) }) reply (some_writes writes) new

@@ -1,12 +1,13 @@
 // One request.
 
 ghost use Rattle.std.specs.Prelude.{◌≡◌, [], IfOk};
-ghost use Rattle.std.specs.Option.{option_copied};
 ghost use Rattle.record_store.specs.Heaps.{rows_in};
 ghost use Rattle.apex_meaning.specs.Refusals as refusals;
 ghost use Rattle.tenant_core.specs.Logs.{IsCurrent};
 ghost use Rattle.save_procedure.specs.Does.{IsSound, HasIds};
-ghost use Rattle.session_runs.specs.Sessions.{AreChecked, EndsBlock, EndsWork, IsCheckedOr, there};
+ghost use Rattle.program_code.specs.Checked.{IsChecked};
+ghost use Rattle.program_code.specs.Means.{block_in, is_there};
+ghost use Rattle.session_runs.specs.Sessions.{EndsBlock, EndsWork};
 
 use crate::{Attempt, run_image};
 use apex_meaning::{no_writes, not_yet, refusal};
@@ -14,7 +15,7 @@ use apex_num::NoMemory;
 use apex_requests::{Ticket, Work};
 use apex_schema::Schema;
 use fault_words::Fault;
-use stack_code::Image;
+use program_code::Image;
 use std::alloc::Global;
 use tenant_core::{Log, Shard};
 
@@ -32,13 +33,13 @@ fn refused(alloc: Global, fault: Fault) -> Attempt
     }
 }
 
-// The image of a block, where it has one.
-fn image_at(images: &[Option<Image>], block: usize) -> Option<&Image>
-    ensures { option_copied result ≡ there images.now block }
+// Whether an image has the code of a block.
+fn has_block(image: &Image, block: usize) -> bool
+    ensures { result ≡ is_there (block_in image.now block) }
 {
-    match images.get(block) {
-        Some(Some(image)) => Some(image),
-        Some(None) | None => None,
+    match image.blocks.as_slice().get(block) {
+        Some(Some(_)) => true,
+        Some(None) | None => false,
     }
 }
 
@@ -46,7 +47,7 @@ fn image_at(images: &[Option<Image>], block: usize) -> Option<&Image>
 fn run_block(
     alloc: Global,
     schema: &Schema,
-    images: &[Option<Image>],
+    image: &Image,
     block: usize,
     ticket: Ticket,
     shard: &mut Shard,
@@ -54,14 +55,15 @@ fn run_block(
 ) -> Result<Attempt, NoMemory>
     requires sound { IsSound schema.now }
     requires ids { HasIds ticket }
-    requires checked { IsCheckedOr (there images.now block) }
-    ensures ends { IfOk result (λ e. EndsBlock schema.now ticket (there images.now block) (rows_in tenant shard.old.rows) e.reply e.writes) }
+    requires checked { IsChecked image.now }
+    ensures ends { IfOk result (λ e. EndsBlock schema.now ticket image.now block (block_in image.now block) (rows_in tenant shard.old.rows) e.reply e.writes) }
     ensures log { IfOk result (λ e. IsCurrent (rows_in tenant shard.old.rows) e.log) }
     ensures same { shard.new ≡ shard.old }
 {
-    match image_at(images, block) {
-        Some(image) => run_image(alloc, image, schema, ticket, shard, tenant),
-        None => Ok(refused(alloc, not_yet(alloc)?)),
+    if has_block(image, block) {
+        run_image(alloc, image, block, schema, ticket, shard, tenant)
+    } else {
+        Ok(refused(alloc, not_yet(alloc)?))
     }
 }
 
@@ -69,7 +71,7 @@ fn run_block(
 pub fn run_work(
     alloc: Global,
     schema: &Schema,
-    images: &[Option<Image>],
+    image: &Image,
     work: &Work,
     ticket: Ticket,
     shard: &mut Shard,
@@ -77,13 +79,13 @@ pub fn run_work(
 ) -> Result<Attempt, NoMemory>
     requires sound { IsSound schema.now }
     requires ids { HasIds ticket }
-    requires checked { AreChecked images.now }
-    ensures ends { IfOk result (λ e. EndsWork schema.now ticket images.now work.now (rows_in tenant shard.old.rows) e.reply e.writes) }
+    requires checked { IsChecked image.now }
+    ensures ends { IfOk result (λ e. EndsWork schema.now ticket image.now work.now (rows_in tenant shard.old.rows) e.reply e.writes) }
     ensures log { IfOk result (λ e. IsCurrent (rows_in tenant shard.old.rows) e.log) }
     ensures same { shard.new ≡ shard.old }
 {
     match work {
-        Work::Apex(block) => run_block(alloc, schema, images, *block, ticket, shard, tenant),
+        Work::Apex(block) => run_block(alloc, schema, image, *block, ticket, shard, tenant),
         Work::Save { .. } => Ok(refused(alloc, not_yet(alloc)?)),
         Work::Refused(fault) => Ok(refused(alloc, fault.copy()?)),
     }

@@ -5,7 +5,7 @@ ghost use Rattle.record_store.specs.Heaps.{rows_in};
 ghost use Rattle.record_store.specs.Places.{answer_to};
 ghost use Rattle.save_procedure.specs.Does.{IsSound, HasIds};
 ghost use Rattle.tenant_core.specs.Logs.{AsksRows, IsCurrent};
-ghost use Rattle.stack_code.specs.Checked.{IsChecked};
+ghost use Rattle.program_code.specs.Checked.{IsChecked};
 ghost use Rattle.session_runs.specs.Blocks.{IsAt, RunsTo, told_of};
 
 use apex_list::Items;
@@ -13,8 +13,8 @@ use apex_num::NoMemory;
 use apex_requests::{Outcome, Reply, Ticket};
 use apex_rows::{Answer, Question, Writes};
 use apex_schema::Schema;
-use metered_vm::{Pause, Vm, resume, start};
-use stack_code::Image;
+use program_code::Image;
+use program_machine::{Pause, Vm, resume, start};
 use std::alloc::{AllocError, Global};
 use tenant_core::{Log, Shard};
 
@@ -79,6 +79,7 @@ fn answered(
 fn run_on(
     alloc: Global,
     image: &Image,
+    block: usize,
     schema: &Schema,
     ticket: Ticket,
     vm: &mut Vm,
@@ -87,8 +88,8 @@ fn run_on(
 ) -> Result<Attempt, NoMemory>
     requires sound { IsSound schema.now }
     requires ids { HasIds ticket }
-    requires first { IsAt schema.now ticket image.now (rows_in tenant shard.old.rows) vm.old None }
-    ensures runs { IfOk result (λ e. RunsTo schema.now ticket image.now (rows_in tenant shard.old.rows) e.reply e.writes) }
+    requires first { IsAt schema.now ticket image.now block (rows_in tenant shard.old.rows) vm.old None }
+    ensures runs { IfOk result (λ e. RunsTo schema.now ticket image.now block (rows_in tenant shard.old.rows) e.reply e.writes) }
     ensures log { IfOk result (λ e. IsCurrent (rows_in tenant shard.old.rows) e.log) }
     ensures same { shard.new ≡ shard.old }
 {
@@ -104,12 +105,13 @@ fn run_on(
     Err(AllocError)
 }
 
-/// Runs a checked image to its end on the rows of a tenant, which answer what it asks. Nothing of the shard changes. The reply
+/// Runs a block of a checked image to its end on the rows of a tenant, which answer what it asks. Nothing of the shard changes. The reply
 /// tells how many steps of the machine counted, or none where the request is refused; the log tells each question with its
 /// answer.
 pub fn run_image(
     alloc: Global,
     image: &Image,
+    block: usize,
     schema: &Schema,
     ticket: Ticket,
     shard: &mut Shard,
@@ -118,12 +120,12 @@ pub fn run_image(
     requires sound { IsSound schema.now }
     requires ids { HasIds ticket }
     requires checked { IsChecked image.now }
-    ensures runs { IfOk result (λ e. RunsTo schema.now ticket image.now (rows_in tenant shard.old.rows) e.reply e.writes) }
+    ensures runs { IfOk result (λ e. RunsTo schema.now ticket image.now block (rows_in tenant shard.old.rows) e.reply e.writes) }
     ensures log { IfOk result (λ e. IsCurrent (rows_in tenant shard.old.rows) e.log) }
     ensures same { shard.new ≡ shard.old }
 {
-    let mut vm = start(alloc);
-    run_on(alloc, image, schema, ticket, &mut vm, shard, tenant)
+    let mut vm = start(alloc, block);
+    run_on(alloc, image, block, schema, ticket, &mut vm, shard, tenant)
 }
 
 // What no rows answer.
@@ -140,14 +142,15 @@ fn answer_none(alloc: Global, question: &Question) -> Answer
 fn run_without(
     alloc: Global,
     image: &Image,
+    block: usize,
     schema: &Schema,
     ticket: Ticket,
     vm: &mut Vm,
 ) -> Result<(Reply, Writes), NoMemory>
     requires sound { IsSound schema.now }
     requires ids { HasIds ticket }
-    requires first { IsAt schema.now ticket image.now [] vm.old None }
-    ensures { IfOk result (λ e. RunsTo schema.now ticket image.now [] e.0 e.1) }
+    requires first { IsAt schema.now ticket image.now block [] vm.old None }
+    ensures { IfOk result (λ e. RunsTo schema.now ticket image.now block [] e.0 e.1) }
 {
     let mut answer = None;
     'questions: for _ in 0..u64::MAX {
@@ -160,19 +163,20 @@ fn run_without(
     Err(AllocError)
 }
 
-/// Runs a checked image to its end where there are no rows. The reply tells how many steps of the machine counted, or none where
+/// Runs a block of a checked image to its end where there are no rows. The reply tells how many steps of the machine counted, or none where
 /// the request is refused.
 pub fn run_alone(
     alloc: Global,
     image: &Image,
+    block: usize,
     schema: &Schema,
     ticket: Ticket,
 ) -> Result<(Reply, Writes), NoMemory>
     requires sound { IsSound schema.now }
     requires ids { HasIds ticket }
     requires checked { IsChecked image.now }
-    ensures { IfOk result (λ e. RunsTo schema.now ticket image.now [] e.0 e.1) }
+    ensures { IfOk result (λ e. RunsTo schema.now ticket image.now block [] e.0 e.1) }
 {
-    let mut vm = start(alloc);
-    run_without(alloc, image, schema, ticket, &mut vm)
+    let mut vm = start(alloc, block);
+    run_without(alloc, image, block, schema, ticket, &mut vm)
 }

@@ -3,6 +3,8 @@
 
 mod deploy;
 mod fault;
+mod laws;
 
 pub use deploy::front;
 pub use fault::FrontFault;
+pub use laws::laws_of_fronts;

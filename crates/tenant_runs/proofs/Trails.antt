@@ -1,11 +1,12 @@
 -- The trail of a tenant with one session at most.
 use Rattle.std.proofs.Common.{◌≡◌, refl, sym, ap, subst, ◌∙◌, List, [], ◌∷◌, length, Option, None, Some}
-use Rattle.std.specs.Prelude.{replicate, slice_get, Result, Ok, Err, IfOk}
+use Rattle.std.specs.Prelude.{replicate, slice_get, Result, Ok, Err, IfOk, OnOk}
 use Rattle.apex_requests.specs.declared.reply.Event.{Event}
 use Rattle.apex_requests.specs.declared.request.Request.{Request}
 use Rattle.apex_rows.specs.declared.row.Row.{Row}
 use Rattle.apex_schema.specs.declared.schema.Schema.{Schema}
 use Rattle.record_store.specs.Heaps.{rows_in}
+use Rattle.session_runs.specs.Replies.{IsRunOf}
 use Rattle.session_runs.specs.Sessions.{tenant_of}
 use Rattle.tenant_trails.specs.States.{Told, fresh}
 use Rattle.tenant_core.specs.declared.shard.Finished.{Finished}
@@ -13,8 +14,8 @@ use Rattle.tenant_core.specs.Finishes.{AreFinished}
 use Rattle.tenant_core.specs.Shards.{AreOpened, Shared, Tenants, seeded, told_at, told_of}
 use Rattle.tenant_parts.specs.declared.part.TenantPart.{TenantPart}
 use Rattle.tenant_parts.specs.declared.session.Session.{Session}
-use Rattle.tenant_trails.specs.Legal.{first_state}
-use Rattle.stack_code.specs.declared.code.Image.{Image}
+use Rattle.tenant_trails.specs.Legal.{first_state, Closed}
+use Rattle.program_code.specs.declared.image.Image.{Image}
 use Rattle.typed_program.specs.declared.program.Program.{Program}
 use Rattle.tenant_runs.specs.Steps.{first_requests, IsFew, IsNewFor, IsRunFirst}
 use Rattle.tenant_runs.specs.Tenants.{AreFew, IsTrail}
@@ -52,25 +53,32 @@ finished_first all (f ∷ g ∷ fs) h = absurd h.1
 -- ---- the trail
 
 -- without a session there is nothing to run
-no_session : (schema : Schema) (program : Program) (images : List (Option Image)) (seed : List Row) → IsTrail schema program images seed [] []
-no_session schema program images seed = record {
+no_session : (schema : Schema) (program : Program) (image : Image) (seed : List Row) → IsTrail schema program image seed [] []
+no_session schema program image seed = record {
   closed = record { after = first_state (tenant_of schema program seed []); is = refl; sessions = refl };
   runs = record { after = first_state (tenant_of schema program seed []); is = refl; sessions = refl };
 }
 
-run_trail : (schema : Schema) (program : Program) (images : List (Option Image)) (seed : List Row) (sessions : List Session) (trail : List Event) → AreFew sessions → IsRunFirst schema program images seed (first_requests sessions) trail → IsTrail schema program images seed sessions trail
-run_trail schema program images seed [] trail h r = subst (IsTrail schema program images seed []) (sym r) (no_session schema program images seed)
-run_trail schema program images seed (s ∷ []) trail h r = record { closed = r.0; runs = r.1 }
-run_trail schema program images seed (s ∷ t ∷ ss) trail h r = absurd h
+run_trail : (schema : Schema) (program : Program) (image : Image) (seed : List Row) (sessions : List Session) (trail : List Event) → AreFew sessions → IsRunFirst schema program image seed (first_requests sessions) trail → IsTrail schema program image seed sessions trail
+run_trail schema program image seed [] trail h r = subst (IsTrail schema program image seed []) (sym r) (no_session schema program image seed)
+run_trail schema program image seed (s ∷ []) trail h r = record { closed = r.0; runs = r.1 }
+run_trail schema program image seed (s ∷ t ∷ ss) trail h r = absurd h
 
-pub trail_is : (schema : Schema) (program : Program) (images : List (Option Image)) (part : TenantPart) (shard : Shared) (requests : Option (List Request)) (events trail : List Event) → AreFew part.sessions → requests ≡ first_requests part.sessions → AreOpened shard ((0, part) ∷ []) →
-    IsRunFirst schema program images (rows_in 0 shard.rows) requests events → trail ≡ events → IsTrail schema program images (seeded part.seed) part.sessions trail
-trail_is schema program images part shard requests events trail h first o r e =
-    subst (IsTrail schema program images (seeded part.seed) part.sessions) (sym e)
-    (run_trail schema program images (seeded part.seed) part.sessions events h
-    (subst (λ rs. IsRunFirst schema program images (seeded part.seed) rs events) first (subst (λ rows. IsRunFirst schema program images rows requests events) o.0.rows r)))
+pub trail_is : (schema : Schema) (program : Program) (image : Image) (part : TenantPart) (shard : Shared) (requests : Option (List Request)) (events trail : List Event) → AreFew part.sessions → requests ≡ first_requests part.sessions → AreOpened shard ((0, part) ∷ []) →
+    IsRunFirst schema program image (rows_in 0 shard.rows) requests events → trail ≡ events → IsTrail schema program image (seeded part.seed) part.sessions trail
+trail_is schema program image part shard requests events trail h first o r e =
+    subst (IsTrail schema program image (seeded part.seed) part.sessions) (sym e)
+    (run_trail schema program image (seeded part.seed) part.sessions events h
+    (subst (λ rs. IsRunFirst schema program image (seeded part.seed) rs events) first (subst (λ rows. IsRunFirst schema program image rows requests events) o.0.rows r)))
 
-pub all_trail : {E : Type 0} (r : Result (List Event) E) (schema : Schema) (program : Program) (images : List (Option Image)) (part : TenantPart) (shard : Shared) (requests : Option (List Request)) (events : List Event) → AreFew part.sessions → requests ≡ first_requests part.sessions → AreOpened shard ((0, part) ∷ []) →
-    IsRunFirst schema program images (rows_in 0 shard.rows) requests events → IfOk r (λ trail. trail ≡ events) → IfOk r (IsTrail schema program images (seeded part.seed) part.sessions)
-all_trail (Ok trail) schema program images part shard requests events h first o r e = trail_is schema program images part shard requests events trail h first o r e
-all_trail (Err x) schema program images part shard requests events h first o r e = tt
+pub all_trail : {E : Type 0} (r : Result (List Event) E) (schema : Schema) (program : Program) (image : Image) (part : TenantPart) (shard : Shared) (requests : Option (List Request)) (events : List Event) → AreFew part.sessions → requests ≡ first_requests part.sessions → AreOpened shard ((0, part) ∷ []) →
+    IsRunFirst schema program image (rows_in 0 shard.rows) requests events → IfOk r (λ trail. trail ≡ events) → IfOk r (IsTrail schema program image (seeded part.seed) part.sessions)
+all_trail (Ok trail) schema program image part shard requests events h first o r e = trail_is schema program image part shard requests events trail h first o r e
+all_trail (Err x) schema program image part shard requests events h first o r e = tt
+
+-- the requests of a first session were run
+pub ran_first : {A E : Type 0} (r : Result A E) (schema : Schema) (program : Program) (image : Image) (seed : List Row) (given : Option (List Request)) (requests slice : List Request) (trail : List Event) → given ≡ Some requests → slice ≡ requests →
+    OnOk r (Closed (tenant_of schema program seed (slice ∷ [])) trail) → OnOk r (IsRunOf schema image (slice ∷ []) (tenant_of schema program seed (slice ∷ [])) trail) → OnOk r (IsRunFirst schema program image seed given trail)
+ran_first (Ok a) schema program image seed given requests slice trail e s c i =
+    subst (λ g. IsRunFirst schema program image seed g trail) (sym e) (subst (λ rs. IsRunFirst schema program image seed (Some rs) trail) s (c, i))
+ran_first (Err x) schema program image seed given requests slice trail e s c i = tt

@@ -9,7 +9,7 @@ use Rattle.session_runs.specs.Sessions.{HaveUsers, IsNew, tenant_of}
 use Rattle.tenant_trails.specs.States.{Told}
 use Rattle.tenant_parts.specs.declared.session.Session.{Session}
 use Rattle.tenant_trails.specs.Legal.{Closed}
-use Rattle.stack_code.specs.declared.code.Image.{Image}
+use Rattle.program_code.specs.declared.image.Image.{Image}
 use Rattle.typed_program.specs.declared.program.Program.{Program}
 
 -- the requests of the first session, if there is one
@@ -27,7 +27,7 @@ IsNewFor None told = told.events ≡ []
 IsNewFor (Some requests) told = IsNew told
 
 -- the trail is legal and closes each request, and each reply is the machine's
-abbrev pub IsRunFirst : Schema → Program → List (Option Image) → List Row → Option (List Request) → List Event → Type 0
-IsRunFirst schema program images seed None trail = trail ≡ []
-IsRunFirst schema program images seed (Some requests) trail =
-    Closed (tenant_of schema program seed (requests ∷ [])) trail × IsRunOf schema images (requests ∷ []) (tenant_of schema program seed (requests ∷ [])) trail
+abbrev pub IsRunFirst : Schema → Program → Image → List Row → Option (List Request) → List Event → Type 0
+IsRunFirst schema program image seed None trail = trail ≡ []
+IsRunFirst schema program image seed (Some requests) trail =
+    Closed (tenant_of schema program seed (requests ∷ [])) trail × IsRunOf schema image (requests ∷ []) (tenant_of schema program seed (requests ∷ [])) trail

@@ -5,12 +5,13 @@ use Rattle.apex_requests.specs.declared.request.Request.{Request}
 use Rattle.apex_rows.specs.declared.row.Row.{Row}
 use Rattle.apex_schema.specs.declared.schema.Schema.{Schema}
 use Rattle.session_runs.specs.Replies.{IsRunOf}
-use Rattle.session_runs.specs.Sessions.{AreChecked, AreImages, HaveUsers, tenant_of}
+use Rattle.program_code.specs.Means.{Means}
+use Rattle.session_runs.specs.Sessions.{HaveUsers, tenant_of}
 use Rattle.tenant_core.specs.Shards.{seeded}
 use Rattle.tenant_parts.specs.declared.part.TenantPart.{TenantPart}
 use Rattle.tenant_parts.specs.declared.session.Session.{Session}
 use Rattle.tenant_trails.specs.Legal.{Closed}
-use Rattle.stack_code.specs.declared.code.Image.{Image}
+use Rattle.program_code.specs.declared.image.Image.{Image}
 use Rattle.typed_program.specs.declared.program.Program.{Program}
 
 abbrev pub requests_of : List Session → List (List Request)
@@ -24,12 +25,11 @@ AreFew (s ∷ t ∷ ss) = ⊥
 
 -- the trail is legal and closes each request, which comes to what its block means or is refused; and each reply is the
 -- machine's on the rows at its end
-pub record IsTrail (schema : Schema) (program : Program) (images : List (Option Image)) (seed : List Row) (sessions : List Session) (trail : List Event) : Type 0 where
+pub record IsTrail (schema : Schema) (program : Program) (image : Image) (seed : List Row) (sessions : List Session) (trail : List Event) : Type 0 where
   pub closed : Closed (tenant_of schema program seed (requests_of sessions)) trail
-  pub runs : IsRunOf schema images (requests_of sessions) (tenant_of schema program seed (requests_of sessions)) trail
+  pub runs : IsRunOf schema image (requests_of sessions) (tenant_of schema program seed (requests_of sessions)) trail
 
--- the images are those of its blocks, and mean them
-pub record IsRan (part : TenantPart) (images : List (Option Image)) (trail : List Event) : Type 0 where
-  pub means : AreImages part.program.blocks images
-  pub checked : AreChecked images
-  pub is_trail : IsTrail part.schema part.program images (seeded part.seed) part.sessions trail
+-- the image means its program
+pub record IsRan (part : TenantPart) (image : Image) (trail : List Event) : Type 0 where
+  pub means : Means part.program image
+  pub is_trail : IsTrail part.schema part.program image (seeded part.seed) part.sessions trail

@@ -3,7 +3,8 @@
 ghost use Rattle.std.specs.Prelude.{◌≡◌, ◌∷◌, [], List, Option, IfOk, OnOk};
 ghost use Rattle.record_store.specs.Heaps.{rows_in};
 ghost use Rattle.save_procedure.specs.Does.{IsSound};
-ghost use Rattle.session_runs.specs.Sessions.{AreChecked, AreImages};
+ghost use Rattle.program_code.specs.Checked.{IsChecked};
+ghost use Rattle.program_code.specs.Means.{Means};
 ghost use Rattle.tenant_core.specs.Shards.{AreOpened, part_at, seeded, told_at};
 ghost use Rattle.typed_program.specs.declared.program.Program.{Program as Code};
 ghost use Rattle.tenant_runs.specs.Steps as steps;
@@ -13,8 +14,10 @@ use apex_list::Items;
 use apex_num::NoMemory;
 use apex_requests::{Event, Request};
 use apex_schema::Schema;
-use session_runs::{block_images, run_session};
-use stack_code::Image;
+use program_code::Image;
+use program_compiler::compile;
+use program_means::laws_of_images;
+use session_runs::run_session;
 use std::alloc::Global;
 use tenant_core::{Finished, Shard};
 use tenant_parts::{Session, TenantPart};
@@ -22,8 +25,8 @@ use tenant_parts::{Session, TenantPart};
 /// What a tenant came to.
 #[derive(Drop)]
 pub struct Ran {
-    /// The compiled code of its blocks by their numbers, none where a block's code has a fault.
-    pub images: Items<Option<Image>>,
+    /// The compiled code of its program.
+    pub image: Image,
     /// What its session did.
     pub trail: Items<Event>,
 }
@@ -62,21 +65,21 @@ fn alone(alloc: Global, part: TenantPart) -> Result<Shard, NoMemory>
 fn run_first(
     alloc: Global,
     schema: &Schema,
-    images: &[Option<Image>],
+    image: &Image,
     requests: Option<Items<Request>>,
     shard: &mut Shard,
 ) -> Result<(), NoMemory>
     requires sound { IsSound schema.now }
-    requires checked { AreChecked images.now }
+    requires checked { IsChecked image.now }
     requires few { steps.IsFew requests }
     requires new { steps.IsNewFor requests (told_at 0 shard.old.tenants) }
-    ensures runs { (program : Code) → AreImages program.blocks images.now → OnOk result (steps.IsRunFirst schema.now program images.now (rows_in 0 shard.old.rows) requests (told_at 0 shard.new.tenants).events) }
+    ensures runs { (program : Code) → Means program image.now → OnOk result (steps.IsRunFirst schema.now program image.now (rows_in 0 shard.old.rows) requests (told_at 0 shard.new.tenants).events) }
     ensures part { part_at 0 shard.new.tenants ≡ part_at 0 shard.old.tenants }
     ensures order { shard.new.order ≡ shard.old.order }
 {
     match requests {
         None => Ok(()),
-        Some(requests) => run_session(alloc, schema, images, requests.as_slice(), shard, 0),
+        Some(requests) => run_session(alloc, schema, image, requests.as_slice(), shard, 0),
     }
 }
 
@@ -96,31 +99,32 @@ fn trail_alone(shard: Shard) -> Result<Items<Event>, NoMemory>
 fn trail_of(
     alloc: Global,
     schema: &Schema,
-    images: &[Option<Image>],
+    image: &Image,
     requests: Option<Items<Request>>,
     part: TenantPart,
 ) -> Result<Items<Event>, NoMemory>
     requires sound { IsSound schema.now }
-    requires checked { AreChecked images.now }
+    requires checked { IsChecked image.now }
     requires few { spec.AreFew part.sessions }
     requires first { requests ≡ steps.first_requests part.sessions }
-    ensures { (program : Code) → AreImages program.blocks images.now → IfOk result (spec.IsTrail schema.now program images.now (seeded part.seed) part.sessions) }
+    ensures { (program : Code) → Means program image.now → IfOk result (spec.IsTrail schema.now program image.now (seeded part.seed) part.sessions) }
 {
     let mut shard = alone(alloc, part)?;
-    run_first(alloc, schema, images, requests, &mut shard)?;
+    run_first(alloc, schema, image, requests, &mut shard)?;
     trail_alone(shard)
 }
 
-/// Compiles the blocks of a tenant, puts its seed into a shard, and runs there the requests of its session, if it has one, from
+/// Compiles the program of a tenant, puts its seed into a shard, and runs there the requests of its session, if it has one, from
 /// the first to the last. A save is refused as not built, and so is a block where it comes to a form that isn't.
 pub fn run_tenant(alloc: Global, part: TenantPart) -> Result<Ran, NoMemory>
     requires sound { IsSound part.schema }
     requires few { spec.AreFew part.sessions }
-    ensures { IfOk result (λ ran. spec.IsRan part ran.images ran.trail) }
+    ensures { IfOk result (λ ran. spec.IsRan part ran.image ran.trail) }
 {
-    let images = block_images(alloc, part.program.blocks.as_slice())?;
+    laws_of_images();
+    let image = compile(alloc, &part.program)?;
     let schema = part.schema.copy()?;
     let requests = requests_of(alloc, part.sessions.as_slice())?;
-    let trail = trail_of(alloc, &schema, images.as_slice(), requests, part)?;
-    Ok(Ran { images, trail })
+    let trail = trail_of(alloc, &schema, &image, requests, part)?;
+    Ok(Ran { image, trail })
 }

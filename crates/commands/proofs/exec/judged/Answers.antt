@@ -4,7 +4,7 @@ use Rattle.commands.proofs.exec.judged.Goals as goal
 
 pub ran-requires-clause-block : goal.ran-requires-clause-block
 ran-requires-clause-block c =
-    only_of c.args.bytes.now c.args.tree.now c.in_ok-program.program c.in-Ok.block.now c.requires.tree (program_in _ c.args.tree.now c.in_ok-program.program c.in_ok-schema.ensures c.in_ok-program.ensures) c.in-Ok.ensures
+    (c.in-Ok.field-0.now, c.in-Ok.ensures, only_of c.args.bytes.now c.args.tree.now c.in_ok-program.program c.in-Ok.field-0.now c.requires.tree (program_in _ c.args.tree.now c.in_ok-program.program c.in_ok-schema.ensures c.in_ok-program.ensures) c.in-Ok.ensures)
 
 pub returns : goal.returns
 returns c =

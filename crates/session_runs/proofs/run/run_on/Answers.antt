@@ -1,8 +1,8 @@
-use Rattle.std.proofs.Common.{[], refl, sym, ap, subst, ◌∙◌}
+use Rattle.std.proofs.Common.{refl, sym, ap, subst, ◌∙◌}
 use Rattle.record_store.specs.Heaps.{rows_in}
 use Rattle.record_store.specs.Places.{answer_to}
 use Rattle.tenant_core.specs.Logs.{IsCurrent}
-use Rattle.metered_vm.specs.Runs.{Pauses, Waits}
+use Rattle.program_machine.specs.Runs.{Pauses, Waits}
 use Rattle.session_runs.specs.Blocks.{RunsTo}
 use Rattle.session_runs.proofs.Asked.{asks_rows, at_next, at_end, log_none, log_same}
 use Rattle.session_runs.proofs.run.run_on.Goals as goal
@@ -27,9 +27,9 @@ answered-requires-clause-current c =
 
 pub questions-preserved : goal.questions-preserved
 questions-preserved c = (
-  at_next c.args.schema.now c.args.ticket c.args.image.now (rows_in c.args.tenant c.args.shard.now.rows) c.questions.vm c.questions.answer c.in-Need.question c.resume.new.vm c.in_ok-answered-in-Need.field-0 c.questions.invariant.0
+  at_next c.args.schema.now c.args.ticket c.args.image.now c.args.block (rows_in c.args.tenant c.args.shard.now.rows) c.questions.vm c.questions.answer c.in-Need.question c.resume.new.vm c.in_ok-answered-in-Need.field-0 c.questions.invariant.0
       (c.in_ok-answered-in-Need.ensures.answer ∙ ap (λ s. answer_to (rows_in c.args.tenant s.rows) c.in-Need.question) c.questions.invariant.1)
-      (λ tape r. subst (λ p. Pauses c.args.schema.now c.args.ticket c.args.image.now tape p c.resume.new.vm) c.in-Need.is (c.in_ok-reply.ensures.pauses tape r))
+      (λ tape r. subst (λ p. Pauses c.args.schema.now c.args.ticket c.args.image.now c.args.block tape p c.resume.new.vm) c.in-Need.is (c.in_ok-reply.ensures.pauses c.args.block tape r))
       (subst (λ p. Waits c.args.image.now p c.resume.new.vm) c.in-Need.is c.in_ok-reply.ensures.waits),
   c.in_ok-answered-in-Need.ensures.same ∙ c.questions.invariant.1,
   subst (λ s. IsCurrent (rows_in c.args.tenant s.rows) c.answered.new.log) c.questions.invariant.1 c.in_ok-answered-in-Need.ensures.current,
@@ -37,10 +37,10 @@ questions-preserved c = (
 
 pub returns-in-End-clause-runs : goal.returns-in-End-clause-runs
 returns-in-End-clause-runs c =
-    subst (λ w. RunsTo c.args.schema.now c.args.ticket c.args.image.now (rows_in c.args.tenant c.args.shard.now.rows) c.end_of.result.reply w) (sym c.end_of.ensures.writes)
-    (subst (λ r. RunsTo c.args.schema.now c.args.ticket c.args.image.now (rows_in c.args.tenant c.args.shard.now.rows) r c.in-End.writes) (sym c.end_of.ensures.reply)
-    (at_end c.args.schema.now c.args.ticket c.args.image.now (rows_in c.args.tenant c.args.shard.now.rows) c.questions.vm c.questions.answer c.in-End.reply c.in-End.writes c.resume.new.vm c.questions.invariant.0
-    (λ tape r. subst (λ p. Pauses c.args.schema.now c.args.ticket c.args.image.now tape p c.resume.new.vm) c.in-End.is (c.in_ok-reply.ensures.pauses tape r))))
+    subst (λ w. RunsTo c.args.schema.now c.args.ticket c.args.image.now c.args.block (rows_in c.args.tenant c.args.shard.now.rows) c.end_of.result.reply w) (sym c.end_of.ensures.writes)
+    (subst (λ r. RunsTo c.args.schema.now c.args.ticket c.args.image.now c.args.block (rows_in c.args.tenant c.args.shard.now.rows) r c.in-End.writes) (sym c.end_of.ensures.reply)
+    (at_end c.args.schema.now c.args.ticket c.args.image.now c.args.block (rows_in c.args.tenant c.args.shard.now.rows) c.questions.vm c.questions.answer c.in-End.reply c.in-End.writes c.resume.new.vm c.questions.invariant.0
+    (λ tape r. subst (λ p. Pauses c.args.schema.now c.args.ticket c.args.image.now c.args.block tape p c.resume.new.vm) c.in-End.is (c.in_ok-reply.ensures.pauses c.args.block tape r))))
 
 pub returns-in-End-clause-log : goal.returns-in-End-clause-log
 returns-in-End-clause-log c =

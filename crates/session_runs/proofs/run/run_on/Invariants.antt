@@ -6,6 +6,6 @@ use Rattle.session_runs.proofs.run.run_on.Given as goal
 
 abbrev pub invariant-questions : goal.invariant-questions
 invariant-questions l =
-    IsAt l.schema l.ticket l.image (rows_in l.tenant l.fn.shard.rows) l.vm l.answer
+    IsAt l.schema l.ticket l.image l.block (rows_in l.tenant l.fn.shard.rows) l.vm l.answer
     × (l.shard ≡ l.fn.shard)
     × IsCurrent (rows_in l.tenant l.fn.shard.rows) l.log

@@ -27,5 +27,5 @@ unreachable-requires c =
 pub returns-clause-runs : goal.returns-clause-runs
 returns-clause-runs c =
     run_is c.args.tenant c.args.index c.args.shard.now c.start.new.self c.run_work.new.shard c.in_ok-reply.ensures.same c.requires.stands c.in_ok-start.ensures.starts
-    c.args.schema.now c.args.images.now c.args.request.now c.ticket_of-ticket.result c.in_ok-reply.field-0.reply c.in_ok-reply.field-0.writes c.in_ok-reply.field-0.log c.end.new.self c.in_ok-start.ensures.rows c.ticket_of-ticket.ensures c.in_ok-reply.ensures.ends
+    c.args.schema.now c.args.image.now c.args.request.now c.ticket_of-ticket.result c.in_ok-reply.field-0.reply c.in_ok-reply.field-0.writes c.in_ok-reply.field-0.log c.end.new.self c.in_ok-start.ensures.rows c.ticket_of-ticket.ensures c.in_ok-reply.ensures.ends
     (subst (λ e. Ends c.args.tenant 0 c.in_ok-reply.field-0.log c.in_ok-reply.field-0.reply c.in_ok-reply.field-0.writes c.run_work.new.shard c.end.new.self e) c.in-Closed.is c.in_ok-end.ensures.ended)

@@ -1,0 +1,5 @@
+pub mod Offsets
+pub mod MethodSteps
+pub mod StartSteps
+pub mod Texts
+pub mod Grows

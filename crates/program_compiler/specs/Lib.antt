@@ -1,0 +1,5 @@
+pub mod Offsets
+pub mod Codes
+pub mod Clauses
+pub mod Keys
+pub mod Shapes

@@ -1,0 +1,5 @@
+pub mod Modes
+pub mod Running
+pub mod Once
+pub mod Callers
+pub mod Leads

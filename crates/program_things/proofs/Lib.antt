@@ -1,0 +1,13 @@
+mod Lists
+mod Charged
+mod Same
+mod Fields
+mod Made
+mod Sizes
+mod Told
+mod Called
+mod Advancing
+mod Framed
+mod Messages
+mod Named
+pub mod Lines

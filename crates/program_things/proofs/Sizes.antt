@@ -1,0 +1,12 @@
+-- Charges of texts by their sizes.
+use Rattle.std.proofs.Common.{◌≡◌, ℕ, ◌+◌, ◌-◌, ◌^◌, min, Option, subst, arith}
+use Rattle.apex_num.specs.declared.kind.LimitKind.TheVariants.{Alloc}
+use Rattle.program_code.specs.declared.state.Config.{Config}
+use Rattle.program_things.specs.declared.moved.Moved.{Moved}
+use Rattle.program_things.specs.Steps.{Charges}
+use Rattle.program_things.proofs.Charged.{capped_charges}
+
+pub sized_charges : (n k : ℕ) (c : Config) (r : Option Moved) (d : Config) → k ≡ min (n + 16) (2 ^ 64 - 1) → Charges Alloc k c r d → Charges Alloc (16 + n) c r d
+sized_charges n k c r d e h =
+    let turned : n + 16 ≡ 16 + n = omega arith in
+    subst (λ m. Charges Alloc m c r d) turned (capped_charges (n + 16) c r d (subst (λ m. Charges Alloc m c r d) e h))

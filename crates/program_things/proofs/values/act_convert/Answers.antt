@@ -1,0 +1,14 @@
+use Rattle.std.proofs.Common.{◌∷◌, refl, sym, ap, ◌∙◌}
+use Rattle.value_operators.specs.Operators.{converted}
+use Rattle.program_code.specs.Machine.{next, on_calc}
+use Rattle.program_things.proofs.Called.{renamed}
+use Rattle.program_things.proofs.Same.{calc_alike, top_is, with_stack}
+use Rattle.program_things.proofs.values.act_convert.Goals as goal
+
+pub returns : goal.returns
+returns c =
+    let before = c.args.c.now in let rest = c.take-value.new.stack in
+    renamed c.calc_next.result _ _ c.calc_next.new.c
+    (top_is before.top.stack rest c.take-value.result (λ v stack. on_calc (converted c.args.how v) before (λ w. next before (w ∷ stack))) c.take-value.ensures
+    ∙ calc_alike (converted c.args.how c.take-value.result) before rest _ _ (λ w. refl)
+    ∙ sym (ap (λ r. on_calc r (with_stack before rest) (λ w. next (with_stack before rest) (w ∷ rest))) c.in_ok-converted.ensures)) c.calc_next.ensures

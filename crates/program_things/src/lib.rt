@@ -1,0 +1,30 @@
+//! What instructions do with values, variables and things, as they run: each step is the one of `program_code` (docs/language.md,
+//! "The machine of whole programs").
+#![tactic(auto)]
+
+mod act;
+mod builtins;
+mod charges;
+mod collections;
+mod ends;
+mod kinds;
+mod moved;
+mod operands;
+mod records;
+mod saves;
+mod stores;
+mod things;
+mod values;
+mod variables;
+
+pub use act::act_value;
+pub use charges::charge;
+pub use ends::{failing, limited, refused, reply_of};
+pub use kinds::{
+    ThingKind, is_built_in, is_declared, kind_named, kind_of, message_named, name_of_kind,
+};
+pub use moved::Moved;
+pub use operands::{leave, next, next_with, raise, set_mode, take, take_values};
+pub use records::{records_of, rows_in, set_ids};
+pub use saves::{ask, count, save};
+pub use variables::put_at;

@@ -1,0 +1,224 @@
+// Counts and saves.
+
+ghost use Rattle.std.specs.Prelude.{◌≡◌, ◌<◌, ◌+◌, ◌^◌, ◌∷◌, pos, IfOk, OnOk};
+ghost use Rattle.apex_meaning.specs.Statements as statements;
+ghost use Rattle.save_meaning.specs.Counts.{count_of as rows_counted};
+ghost use Rattle.save_meaning.specs.Inserts.{rows_of_answer};
+ghost use Rattle.save_meaning.specs.Moves as saves;
+ghost use Rattle.save_procedure.specs.Does.{IsSound, HasIds, IsPaid};
+ghost use Rattle.apex_rows.specs.declared.query.Question.TheVariants.{Read};
+ghost use Rattle.program_code.specs.declared.image.Image.{Image as AnyImage};
+ghost use Rattle.program_code.specs.declared.state.Config.{Config as AnyConfig};
+ghost use Rattle.program_code.specs.declared.state.Mode.TheVariants as M;
+ghost use Rattle.program_code.specs.Machine as spec;
+ghost use Rattle.program_code.specs.Steps as steps;
+ghost use Rattle.program_things.specs.Saves.{AsksRead, BehindSave, IsStepTo};
+ghost use Rattle.program_things.specs.Steps.{IsStep};
+
+use crate::charges::charge;
+use crate::ends::limited;
+use crate::moved::Moved;
+use crate::operands::{next, raise, set_mode, take};
+use crate::records::{records_of, rows_in, set_ids};
+use activations::{Abrupt, Raised};
+use apex_list::{Boxed, Items};
+use apex_num::{Cell, Id, LimitKind, NoMemory};
+use apex_requests::{SaveRow, Ticket};
+use apex_rows::{Answer, Question, Row};
+use apex_schema::Schema;
+use platform_errors::Thrown;
+use program_code::{Config, Counting, Mode};
+use row_conditions::holds;
+use save_meaning::{SaveRun, Stage};
+use save_procedure::{Stopped, advance};
+use std::alloc::Global;
+use txn_heap::Value;
+use txn_overlay::Overlay;
+use typed_program::Saved;
+
+// ---- counts
+
+// What is counted, once more.
+fn copy_counting(alloc: Global, counting: &Counting) -> Result<Boxed<Counting>, NoMemory>
+    ensures { IfOk result (λ q. q ≡ counting.now) }
+{
+    let cond = counting.cond.copy()?;
+    let asked = counting.asked.copy()?;
+    let object = counting.object;
+    Boxed::new(
+        alloc,
+        Counting {
+            object,
+            cond,
+            asked,
+        },
+    )
+}
+
+/// A COUNT() begins.
+pub fn act_count(alloc: Global, counting: &Counting, c: &mut Config) -> Result<Moved, NoMemory>
+    requires { c.old.top.pc + 1 < 2 ^ 64 }
+    ensures { IfOk result (λ m. IsStep (steps.count_next counting.now c.old) m c.new) }
+{
+    match charge(alloc, LimitKind::Queries, 1, c) {
+        Some(moved) => Ok(moved),
+        None => {
+            let asking = copy_counting(alloc, counting)?;
+            set_mode(c, Mode::Asking(asking));
+            Ok(next(c))
+        }
+    }
+}
+
+/// A COUNT() asks, and the machine waits as it is.
+pub fn ask(alloc: Global, counting: &Counting) -> Result<Moved, NoMemory>
+    ensures step { (c : AnyConfig) → IfOk result (λ m. IsStep (spec.Asks (Read counting.now.object counting.now.asked)) m c) }
+    ensures reads { IfOk result AsksRead }
+{
+    let cond = Boxed::new(alloc, counting.asked.copy()?)?;
+    let object = counting.object;
+    Ok(Moved::Asked(Question::Read { object, cond }))
+}
+
+// The rows that were answered.
+fn rows_of(alloc: Global, answer: Answer) -> Vec<Row>
+    ensures { result.items ≡ rows_of_answer answer }
+{
+    match answer {
+        Answer::Rows(rows) => rows.into_vec(),
+        Answer::Granted => Vec::new(alloc),
+    }
+}
+
+// How many rows a COUNT() finds, where a store answered these.
+fn count_rows(
+    alloc: Global,
+    overlay: &Overlay,
+    counting: &Counting,
+    answered: Vec<Row>,
+) -> Result<i64, NoMemory>
+    ensures { IfOk result (λ n. n ≡ pos (rows_counted overlay.now counting.now.object counting.now.cond answered.items)) }
+{
+    let mut count = 0i32;
+    for row in overlay.merge(counting.object, answered)? {
+        if holds(alloc, &counting.cond, &row)? {
+            count = count.saturating_add(1);
+        }
+    }
+    Ok(count as i64)
+}
+
+// The number of rows is put.
+fn counted_next(n: i64, c: &mut Config) -> Result<Moved, NoMemory>
+    ensures { IfOk result (λ m. IsStep (spec.Goes (spec.in_mode (spec.move c.old c.old.top.pc (Value.Plain (Cell.Whole n) ∷ c.old.top.stack)) M.Running)) m c.new) }
+{
+    c.top.stack.push(Value::Plain(Cell::Whole(n)))?;
+    set_mode(c, Mode::Running);
+    Ok(Moved::Went)
+}
+
+/// A COUNT() has its answer.
+pub fn count(
+    alloc: Global,
+    counting: &Counting,
+    answer: Answer,
+    c: &mut Config,
+) -> Result<Moved, NoMemory>
+    ensures { IfOk result (λ m. IsStep (steps.counted counting.now answer c.old) m c.new) }
+{
+    match charge(alloc, LimitKind::Rows, 1, c) {
+        Some(moved) => Ok(moved),
+        None => {
+            let overlay = c.world.txn.overlay.overlay();
+            let rows = rows_of(alloc, answer);
+            let n = count_rows(alloc, overlay, counting, rows)?;
+            counted_next(n, c)
+        }
+    }
+}
+
+// ---- saves
+
+// The save of records of an object.
+fn first_run(alloc: Global, object: usize, rows: Items<SaveRow>) -> SaveRun
+    ensures { result ≡ saves.first_run object rows }
+{
+    SaveRun {
+        object,
+        rest: rows,
+        place: 0,
+        ids: Items::new(alloc),
+        stage: Stage::Charge,
+    }
+}
+
+// On with the save of records, or with what is thrown where there is a null among them.
+fn insert_next(
+    alloc: Global,
+    records: Option<(usize, Items<usize>)>,
+    c: &mut Config,
+) -> Result<Moved, NoMemory>
+    requires { c.old.top.pc + 1 < 2 ^ 64 }
+    ensures { IfOk result (λ m. IsStep (steps.insert_next records c.old c.old.top.stack) m c.new) }
+{
+    c.top.pc += 1;
+    match records {
+        None => Ok(raise(alloc, Thrown::NullObject, c)),
+        Some((object, places)) => {
+            let rows = rows_in(alloc, &c.world.heap, places.as_slice())?;
+            set_mode(c, Mode::Saving(places, first_run(alloc, object, rows)));
+            Ok(Moved::Went)
+        }
+    }
+}
+
+/// Takes a record or a list of records and inserts them.
+pub fn act_insert(alloc: Global, saved: Saved, c: &mut Config) -> Result<Moved, NoMemory>
+    requires { c.old.top.pc + 1 < 2 ^ 64 }
+    ensures { IfOk result (λ m. IsStep (spec.on_top c.old.top.stack (λ v stack. steps.insert_next (statements.records_of saved v c.old.world.heap) c.old stack)) m c.new) }
+{
+    let value = take(&mut c.top.stack);
+    let records = records_of(alloc, saved, &value, &c.world.heap)?;
+    insert_next(alloc, records, c)
+}
+
+// The records at these places have these Ids.
+fn name_records(places: &[usize], ids: &[Id], c: &mut Config) -> Result<(), NoMemory>
+    ensures { OnOk result (c.new ≡ spec.with_heap c.old (statements.set_ids places.now ids.now c.old.world.heap)) }
+{
+    set_ids(places, ids, &mut c.world.heap)
+}
+
+/// Records are saved, up to the next question or the end of the save.
+pub fn save(
+    alloc: Global,
+    schema: &Schema,
+    ticket: Ticket,
+    places: Items<usize>,
+    run: SaveRun,
+    c: &mut Config,
+) -> Result<Moved, NoMemory>
+    requires sound { IsSound schema.now }
+    requires ids { HasIds ticket }
+    requires paid { IsPaid run c.old.world.txn }
+    ensures step { (image : AnyImage) → IfOk result (λ m. IsStepTo schema.now ticket image (spec.in_mode c.old (M.Saving places run)) m c.new) }
+    ensures behind { IfOk result (λ m. BehindSave c.old m c.new) }
+{
+    let mut run = run;
+    match advance(alloc, schema, ticket, &mut run, &mut c.world.txn)? {
+        Stopped::Asked(question) => {
+            set_mode(c, Mode::Saving(places, run));
+            Ok(Moved::Asked(question))
+        }
+        Stopped::Saved(ids) => {
+            name_records(places.as_slice(), ids.as_slice(), c)?;
+            set_mode(c, Mode::Running);
+            Ok(Moved::Went)
+        }
+        Stopped::Threw(thrown) => {
+            set_mode(c, Mode::Leaving(Abrupt::Throws(Raised::Platform(thrown))));
+            Ok(Moved::Went)
+        }
+        Stopped::Halted(limit) => Ok(limited(alloc, limit, c)),
+    }
+}
