@@ -20,7 +20,7 @@ use Rattle.language_meaning.specs.Meanings.{Again, Body, Method, Constructor, Fi
 use Rattle.language_meaning.specs.Preparing as Prep
 use Rattle.language_meaning.specs.Preparing.{with_statics}
 use Rattle.language_meaning.specs.Statements.{does_all}
-use Rattle.language_laws.proofs.Paid.{Paid as From, Each, none, more, paid_gives, paid_puts, paid_bind, paid_less, paid_none, paid_charge, paid_step, paid_in, paid_returned, paid_all_of, paid_cond, paid_looping}
+use Rattle.language_laws.proofs.Paid.{Paid as From, Each, none, more, paid_gives, paid_puts, paid_bind, paid_less, paid_none, freely, paid_charge, paid_step, paid_in, paid_returned, paid_all_of, paid_cond, paid_looping}
 use Rattle.language_laws.proofs.Classes.{Enough, EnoughFields, paid_started, paid_constructed, paid_message}
 use Rattle.language_laws.proofs.Places.{paid_set_field}
 use Rattle.language_laws.proofs.Prepared.{stay_written}
@@ -85,7 +85,7 @@ module _ (setting : Setting) (again : Again) (names : List (List ℕ)) (p : ℕ)
     own_fields ss c = record { at = λ st s lt. (paid_started setting.program again p enough_for (suc p) within fielded st.here.this (and_fields ss c)).at st s lt }
 
     step : Paid (charge Steps 1)
-    step = paid_charge setting.program (suc p) Steps 1
+    step = paid_charge setting.program (suc p) Steps 1 (freely setting.program)
 
     begins : (c : ℕ) (call : ParentCall) → Paid (B.begins setting again names c call)
     begins c P.Nothing = own_fields no_starts c

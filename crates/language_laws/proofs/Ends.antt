@@ -1,6 +1,9 @@
 -- What blocks come to.
-use Rattle.std.proofs.Common.{◌≡◌, ℕ, suc, ◌+◌, ◌<◌, List, [], ◌∷◌, ◌++◌, map, Option, None, Some, refl, sym, ap, ◌∙◌, subst, append-nil, arith}
+use Rattle.std.proofs.Common.{◌≡◌, ℕ, suc, ◌+◌, ◌<◌, ◌≤◌, Bool, true, false, List, [], ◌∷◌, ◌++◌, map, Option, None, Some, refl, sym, ap, ◌∙◌, subst, append-nil, arith}
+use Rattle.std.proofs.lemmas.Bool.{leb-true, leb-false}
+use Rattle.activations.specs.declared.abrupt.Abrupt.{Abrupt}
 use Rattle.activations.specs.declared.abrupt.Abrupt.TheVariants.{Throws, Returns, Breaks, Continues}
+use Rattle.apex_num.specs.declared.kind.LimitKind.{LimitKind}
 use Rattle.apex_num.specs.declared.kind.LimitKind.TheVariants.{Queries, Rows, Dml, Saved, Steps}
 use Rattle.apex_requests.specs.declared.reply.Outcome.{Outcome}
 use Rattle.apex_requests.specs.declared.reply.Outcome.TheVariants.{Ok}
@@ -8,10 +11,12 @@ use Rattle.apex_requests.specs.declared.reply.Reply.{Reply}
 use Rattle.apex_rows.specs.declared.query.Answer.{Answer}
 use Rattle.apex_rows.specs.declared.query.Question.{Question}
 use Rattle.apex_rows.specs.declared.row.Writes.{Writes}
+use Rattle.limit_meter.specs.Charges.{counter, limit_of, fits}
+use Rattle.save_meaning.specs.Transactions.{charge_if}
 use Rattle.save_meaning.specs.Results.{Finish, Halts, Needs, Unfinished, Unbuilt, Gives, Stops, Leaves, Closes, bind}
 use Rattle.apex_meaning.specs.Refusals.{no_writes, refusal, not_yet}
 use Rattle.apex_meaning.specs.Runs.{Setting, first_state, ended}
-use Rattle.apex_meaning.specs.States.{State, World, Res, charge}
+use Rattle.apex_meaning.specs.States.{State, World, Res, charge, keeps}
 use Rattle.tenant_trails.specs.Runs.{Asks, Ends}
 use Rattle.typed_program.specs.declared.stmt.TypedCatch.{TypedCatch}
 use Rattle.typed_program.specs.declared.stmt.TypedStmt.{TypedStmt}
@@ -62,6 +67,16 @@ rounds_suffice setting block tape st e = (subst (λ r. Comes setting.program (fi
 
 pub counters_stay : Limits.CountersStayWithin
 counters_stay setting block tape k = (left_later setting tape block).sound.within k
+
+-- a charge by what tells whether it fits
+charge_exact : (k : LimitKind) (n : ℕ) (st : State) (b : Bool) → fits k n st.world.txn.charges ≡ b →
+    (counter k st.world.txn.charges + n ≤ limit_of k → charge_if keeps {E = Abrupt} b k n st ≡ Gives tt (Limits.charged_state k n st))
+    × (limit_of k < counter k st.world.txn.charges + n → charge_if keeps {E = Abrupt} b k n st ≡ Stops (Closes (Halts k (limit_of k + 1))) st)
+charge_exact k n st true e = let le = leb-true (counter k st.world.txn.charges + n) (limit_of k) e in (λ fit. refl, λ pass. absurd (omega arith))
+charge_exact k n st false e = let lt = leb-false (counter k st.world.txn.charges + n) (limit_of k) e in (λ fit. absurd (omega arith), λ pass. refl)
+
+pub charges_exact : Limits.ChargesAreExact
+charges_exact k n st = charge_exact k n st (fits k n st.world.txn.charges) refl
 
 pub halts_at_charges : Limits.HaltsAreAtCharges
 halts_at_charges setting block tape k n st e = ((subst (λ r. Comes setting.program (first_state tape).world r) e (block_comes setting tape block)).holds).1

@@ -1,11 +1,11 @@
 -- Code that keeps a request in order, where its ways back in are paid for.
-use Rattle.std.proofs.Common.{◌≡◌, ℕ, suc, ◌+◌, ◌<◌, ◌≤◌, Bool, true, false, cond, List, [], ◌∷◌, Option, None, Some, refl, arith}
+use Rattle.std.proofs.Common.{◌≡◌, ℕ, suc, ◌+◌, ◌<◌, ◌≤◌, Bool, true, false, cond, List, [], ◌∷◌, Option, None, Some, refl, sym, true≢false, arith}
 use Rattle.std.proofs.lemmas.Bool.{leb-false}
 use Rattle.activations.specs.declared.abrupt.Abrupt.TheVariants.{Throws, Returns, Breaks, Continues}
 use Rattle.activations.specs.declared.here.Here.{Here}
 use Rattle.apex_num.specs.declared.kind.LimitKind.{LimitKind}
 use Rattle.apex_num.specs.declared.kind.LimitKind.TheVariants.{Steps, Alloc, Calls}
-use Rattle.limit_meter.specs.Charges.{fits}
+use Rattle.limit_meter.specs.Charges.{fits, limit_of}
 use Rattle.platform_errors.specs.declared.thrown.Thrown.{Thrown}
 use Rattle.save_meaning.specs.Results as R
 use Rattle.save_meaning.specs.Results.{Finish, Halts, Needs, Unfinished, Unbuilt, Stop, Gives, Stops, Leaves, Closes, bind, leaving, leaves_as, Holds}
@@ -17,7 +17,7 @@ use Rattle.typed_program.specs.declared.program.Program.{Program}
 use Rattle.value_operators.specs.Operators.{Calc}
 use Rattle.value_operators.specs.declared.calculated.Calculated.TheVariants.{Val, Fails}
 use Rattle.language_meaning.specs.Meanings.{Do, Run, all_do, all_of, dropped, calc, known_truth, truth_of, test, back, in_here, returned, no_longer_open, called, looping, finally}
-use Rattle.language_laws.specs.Limits.{Passed}
+use Rattle.language_laws.specs.Limits.{Passed, by_ones}
 use Rattle.language_laws.proofs.Worlds.{Sound, spent, most_spent, spent_at_most, Later, later_same, later_kept, later_on, later_charged, later_left, spends_steps, spends_units}
 
 module _ (program : Program) where
@@ -86,23 +86,35 @@ module _ (program : Program) where
 
   -- ---- charges
 
-  charge_comes : {E : Type 0} (k : LimitKind) (n : ℕ) (st : State) (b : Bool) → fits k n st.world.txn.charges ≡ b → Sound st.world.txn.charges → Comes {E = E} st.world (Save.charge_if keeps b k n st)
-  charge_comes k n st true e h = record { holds = later_charged program st.world k n e h }
-  charge_comes k n st false e h = record { holds = (later_same program st.world h, record { named = refl; amount = n; above = leb-false _ _ e }) }
+  -- nothing is said of the others
+  pub freely : {n : ℕ} → false ≡ true → n ≡ 1
+  freely e = absurd (true≢false (sym e))
 
-  pub paid_charge : {E : Type 0} (m : ℕ) (k : LimitKind) (n : ℕ) → Paid {E = E} m (Save.charge keeps k n)
-  paid_charge m k n = record { at = λ st h lt. charge_comes k n st (fits k n st.world.txn.charges) refl h }
+  -- what is charged one by one is charged by one
+  abbrev pub Singly : LimitKind → ℕ → Type 0
+  Singly k n = by_ones k ≡ true → n ≡ 1
+
+  is_full : (c n most : ℕ) → most < c + n → n ≡ 1 → c ≤ most → c ≡ most
+  is_full c n most lt e le = omega arith
+
+  charge_comes : {E : Type 0} (k : LimitKind) (n : ℕ) (st : State) (b : Bool) → Singly k n → fits k n st.world.txn.charges ≡ b → Sound st.world.txn.charges → Comes {E = E} st.world (Save.charge_if keeps b k n st)
+  charge_comes k n st true one e h = record { holds = later_charged program st.world k n e h }
+  charge_comes k n st false one e h =
+      record { holds = (later_same program st.world h, record { named = refl; full = λ ones. is_full _ n (limit_of k) (leb-false _ _ e) (one ones) (h.within k) }) }
+
+  pub paid_charge : {E : Type 0} (m : ℕ) (k : LimitKind) (n : ℕ) → Singly k n → Paid {E = E} m (Save.charge keeps k n)
+  paid_charge m k n one = record { at = λ st h lt. charge_comes k n st (fits k n st.world.txn.charges) one refl h }
 
   -- the charge of as many as there are in the state
-  pub paid_charge_of : {E : Type 0} (m : ℕ) (k : LimitKind) (n : State → ℕ) → Paid {E = E} m (λ st. Save.charge keeps k (n st) st)
-  paid_charge_of m k n = record { at = λ st h lt. charge_comes k (n st) st (fits k (n st) st.world.txn.charges) refl h }
+  pub paid_charge_of : {E : Type 0} (m : ℕ) (k : LimitKind) (n : State → ℕ) → ((st : State) → Singly k (n st)) → Paid {E = E} m (λ st. Save.charge keeps k (n st) st)
+  paid_charge_of m k n one = record { at = λ st h lt. charge_comes k (n st) st (fits k (n st) st.world.txn.charges) (one st) refl h }
 
   step_comes : {E A : Type 0} (m n : ℕ) (f : State → R.Res State E A) (st : State) (b : Bool) → 1 ≤ n → fits Steps n st.world.txn.charges ≡ b → Sound st.world.txn.charges → most_spent program < suc m + spent program st.world → Paid m f → Comes st.world (bind (Save.charge_if keeps b Steps n st) (λ u s. f s))
   step_comes m n f st true le e h lt p =
       let s = later_charged program st.world Steps n e h in
       let more = spends_steps program st.world n le in
       comes_on _ _ _ s (p.at _ s.sound (omega arith))
-  step_comes {E = E} m n f st false le e h lt p = record { holds = (charge_comes {E = E} Steps n st false e h).holds }
+  step_comes {E = E} m n f st false le e h lt p = record { holds = (charge_comes {E = E} Steps n st false freely e h).holds }
 
   -- a step pays for one round
   pub paid_step : {E A : Type 0} (m : ℕ) (f : State → R.Res State E A) → Paid m f → Paid (suc m) (λ st. bind (Save.charge keeps Steps 1 st) (λ u s. f s))
@@ -113,7 +125,7 @@ module _ (program : Program) where
       let s = later_charged program st.world Alloc n e h in
       let more = spends_units program st.world n le in
       comes_on _ _ _ s (p.at _ s.sound (omega arith))
-  unit_comes {E = E} m n f st false le e h lt p = record { holds = (charge_comes {E = E} Alloc n st false e h).holds }
+  unit_comes {E = E} m n f st false le e h lt p = record { holds = (charge_comes {E = E} Alloc n st false freely e h).holds }
 
   -- and so do allocation units
   pub paid_units : {E A : Type 0} (m n : ℕ) (f : State → R.Res State E A) → 1 ≤ n → Paid m f → Paid (suc m) (λ st. bind (Save.charge keeps Alloc n st) (λ u s. f s))
@@ -186,7 +198,7 @@ module _ (program : Program) where
 
   -- a call of a declared method or constructor pays for what it runs
   pub paid_called : (n : ℕ) (go : Run) → Paid n go → Paid (suc n) (called go)
-  paid_called n go h = paid_bind (suc n) (charge Calls 1) (λ u s. bind (charge Steps 1 s) (λ u1 s1. no_longer_open (go s1))) (paid_charge (suc n) Calls 1) (λ u. paid_step n (λ s1. no_longer_open (go s1)) (paid_open n go h))
+  paid_called n go h = paid_bind (suc n) (charge Calls 1) (λ u s. bind (charge Steps 1 s) (λ u1 s1. no_longer_open (go s1))) (paid_charge (suc n) Calls 1 (λ ones. refl)) (λ u. paid_step n (λ s1. no_longer_open (go s1)) (paid_open n go h))
 
   -- ---- lists of parts
 

@@ -31,7 +31,7 @@ use Rattle.language_meaning.specs.Places as Pl
 use Rattle.language_meaning.specs.Places.{Target, LocalAt, StaticAt, FieldAt, CellAt, ItemAt}
 use Rattle.language_meaning.specs.Preparing.{with_statics}
 use Rattle.language_meaning.specs.Preparing as Prep
-use Rattle.language_laws.proofs.Paid.{Paid, paid_gives, paid_puts, paid_bind, paid_charge, paid_throws, paid_unbuilt, paid_calc}
+use Rattle.language_laws.proofs.Paid.{Paid, paid_gives, paid_puts, paid_bind, freely, paid_charge, paid_throws, paid_unbuilt, paid_calc}
 use Rattle.language_laws.proofs.Prepared.{stay_written}
 use Rattle.language_laws.proofs.Worlds.{later_same, later_kept, later_line, later_statics}
 use Rattle.language_laws.proofs.Things.{paid_on_collection, paid_apply}
@@ -126,7 +126,7 @@ module _ (setting : Setting) (again : Again) (p : ℕ) (enough : Enough setting.
   paid_say names v = record {
     at = λ st h lt.
         (paid_bind program (suc p) (charge Alloc (16 + length (text_of setting.schema names st.world.heap v))) (λ u s. Gives null (with_line (text_of setting.schema names st.world.heap v) s))
-        (paid_charge program (suc p) Alloc (16 + length (text_of setting.schema names st.world.heap v)))
+        (paid_charge program (suc p) Alloc (16 + length (text_of setting.schema names st.world.heap v)) (freely program))
         (λ u. paid_puts program (suc p) (λ s. null) (with_line (text_of setting.schema names st.world.heap v)) (λ s k. later_line program s.world (text_of setting.schema names st.world.heap v) k))).at st h lt;
   }
 

@@ -31,7 +31,7 @@ use Rattle.apex_meaning.specs.Statements.{insert_at, insert_these, rows_in, set_
 use Rattle.txn_heap.specs.declared.thing.Value.TheVariants.{Plain}
 use Rattle.typed_program.specs.declared.program.Program.{Program}
 use Rattle.language_laws.proofs.Paid
-use Rattle.language_laws.proofs.Paid.{Paid, paid_gives, paid_leaves, paid_puts, paid_bind, paid_before, paid_charge, paid_charge_of, paid_saved, paid_throws, paid_unbuilt}
+use Rattle.language_laws.proofs.Paid.{Paid, paid_gives, paid_leaves, paid_puts, paid_bind, paid_before, freely, paid_charge, paid_charge_of, paid_saved, paid_throws, paid_unbuilt}
 use Rattle.language_laws.proofs.Worlds.{Sound, later_same, later_kept}
 
 module _ (program : Program) (site : Site) (n : ℕ) where
@@ -52,11 +52,11 @@ module _ (program : Program) (site : Site) (n : ℕ) where
 
   paid_load : (object : ℕ) (o : Object) (rows : List SaveRow) → Paid program n (I.load keeps site object o rows)
   paid_load object o rows =
-      paid_bind program n (Save.charge keeps Steps (length rows)) (λ u s1. Gives (I.loaded site.ticket.user object o rows) s1) (paid_charge program n Steps (length rows)) (λ u. paid_gives program n (λ s. I.loaded site.ticket.user object o rows))
+      paid_bind program n (Save.charge keeps Steps (length rows)) (λ u s1. Gives (I.loaded site.ticket.user object o rows) s1) (paid_charge program n Steps (length rows) (freely program)) (λ u. paid_gives program n (λ s. I.loaded site.ticket.user object o rows))
 
   paid_entered : (rows : List Row) (ds : List Draft) (phase : List Draft → State → SaveRes (List Draft)) → Paid program n (phase ds) → Paid program n (I.entered keeps site rows ds phase)
   paid_entered [] ds phase h = paid_gives program n (λ s. ds)
-  paid_entered (row ∷ rows) ds phase h = paid_bind program n (Save.charge keeps Steps (length (row ∷ rows))) (λ u s1. phase ds s1) (paid_charge program n Steps (length (row ∷ rows))) (λ u. h)
+  paid_entered (row ∷ rows) ds phase h = paid_bind program n (Save.charge keeps Steps (length (row ∷ rows))) (λ u s1. phase ds s1) (paid_charge program n Steps (length (row ∷ rows)) (freely program)) (λ u. h)
 
   paid_enter : (phase : List Draft → State → SaveRes (List Draft)) (ds : List Draft) → Paid program n (phase ds) → Paid program n (I.enter keeps site phase ds)
   paid_enter phase ds h = paid_entered (going ds) ds phase h
@@ -88,7 +88,7 @@ module _ (program : Program) (site : Site) (n : ℕ) where
   paid_write o [] = paid_gives program n (λ s. [])
   paid_write o (Wrong e ∷ ds) = paid_bind program n (I.write keeps site o ds) (λ more s1. Gives (Wrong e ∷ more) s1) (paid_write o ds) (λ more. paid_gives program n (λ s. Wrong e ∷ more))
   paid_write o (Going row ∷ ds) =
-      paid_bind program n (Save.charge keeps Alloc (64 + 32 * length o.fields)) _ (paid_charge program n Alloc (64 + 32 * length o.fields))
+      paid_bind program n (Save.charge keeps Alloc (64 + 32 * length o.fields)) _ (paid_charge program n Alloc (64 + 32 * length o.fields) (freely program))
       (λ u. record {
         at = λ s1 h lt.
             (paid_bind program n (λ s. I.write keeps site o ds (I.put_new keeps site (I.next_id keeps site o s1) row s))
@@ -129,8 +129,8 @@ module _ (program : Program) (site : Site) (n : ℕ) where
 
   paid_insert : (object : ℕ) (rows : List SaveRow) → Paid program n (I.insert keeps site object rows)
   paid_insert object rows =
-      paid_bind program n (Save.charge keeps Dml 1) _ (paid_charge program n Dml 1)
-      (λ u. paid_bind program n (Save.charge keeps Saved (length rows)) _ (paid_charge program n Saved (length rows))
+      paid_bind program n (Save.charge keeps Dml 1) _ (paid_charge program n Dml 1 (λ ones. refl))
+      (λ u. paid_bind program n (Save.charge keeps Saved (length rows)) _ (paid_charge program n Saved (length rows) (freely program))
       (λ v. paid_double _ _ _ (paid_object (slice_get site.schema.objects object) object rows)))
 
   paid_insert_at : (object : ℕ) (ps : List ℕ) → Paid program n (insert_at site object ps)
@@ -149,9 +149,9 @@ module _ (program : Program) (site : Site) (n : ℕ) where
 
   paid_count : {E : Type 0} (object : ℕ) (c : Cond) → Paid program {E = E} n (count keeps object c)
   paid_count object c =
-      paid_bind program n (Save.charge keeps Queries 1) _ (paid_charge program n Queries 1)
+      paid_bind program n (Save.charge keeps Queries 1) _ (paid_charge program n Queries 1 (λ ones. refl))
       (λ u. paid_bind program n _ _ (paid_ask _)
-      (λ a. paid_bind program n (Save.charge keeps Rows 1) _ (paid_charge program n Rows 1)
+      (λ a. paid_bind program n (Save.charge keeps Rows 1) _ (paid_charge program n Rows 1 (freely program))
       (λ v. paid_gives program n (λ s3. count_of s3.world.txn.overlay object c (I.rows_of_answer a)))))
 
   paid_count_if : (b : Bool) (object : ℕ) (c : Cond) → Paid program n (E.count_if site b object c)

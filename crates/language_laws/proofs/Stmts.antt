@@ -31,7 +31,7 @@ use Rattle.language_meaning.specs.Exceptions as X
 use Rattle.language_meaning.specs.Exceptions.{Clause, catching, caught_by, clause_for, takes, throw}
 use Rattle.language_meaning.specs.Meanings.{Again, Do, all_do, calc, test}
 use Rattle.language_meaning.specs.Statements as D
-use Rattle.language_laws.proofs.Paid.{Paid as From, Comes, Each, none, more, paid_at, paid_gives, paid_leaves, paid_bind, paid_before, paid_charge, paid_throws, paid_unbuilt, paid_calc, paid_test, paid_dropped, paid_make, paid_looping, paid_finally, paid_all_do}
+use Rattle.language_laws.proofs.Paid.{Paid as From, Comes, Each, none, more, paid_at, paid_gives, paid_leaves, paid_bind, paid_before, freely, paid_charge, paid_throws, paid_unbuilt, paid_calc, paid_test, paid_dropped, paid_make, paid_looping, paid_finally, paid_all_do}
 use Rattle.language_laws.proofs.Classes.{Enough}
 use Rattle.language_laws.proofs.Saves.{paid_insert_these}
 use Rattle.language_laws.proofs.Trees.{paid_expr}
@@ -85,9 +85,9 @@ module _ (program : Program) (n : ℕ) where
   -- ---- loops over collections
 
   paid_each : (slot : ℕ) (how : Conversion) (body : Do) (vs : List Value) → From program n body → From program n (D.each slot how body vs)
-  paid_each slot how body [] h = paid_charge program n Steps 1
+  paid_each slot how body [] h = paid_charge program n Steps 1 (freely program)
   paid_each slot how body (v ∷ vs) h =
-      paid_bind program n (charge Steps 1) _ (paid_charge program n Steps 1)
+      paid_bind program n (charge Steps 1) _ (paid_charge program n Steps 1 (freely program))
       (λ u. paid_bind program n (calc (converted how v)) _ (paid_calc program n (converted how v))
       (λ w. paid_looping program n (λ s1. body (set_local slot w s1)) (D.each slot how body vs) (paid_before program n (set_local slot w) body (λ st k. later_same program st.world k) h) (paid_each slot how body vs h)))
 
@@ -162,7 +162,7 @@ module _ (setting : Setting) (again : Again) (names : List (List ℕ)) (p : ℕ)
 
   -- with its step
   stepped : (z : TypedStmt-F TypedStmt TypedCatch) (f : Do) → ((st : State) → D.stmt_step setting again names (map-TypedStmt TypedStmt TypedCatch Do Clause (D.does setting again names) clause z) st ≡ bind (charge Steps 1 st) (λ u s. f s)) → Paid f → OfStmt (roll-TypedStmt z)
-  stepped z f e h = stmt_does z (record { at = λ st s lt. subst (λ r. Comes setting.program st.world r) (sym (e st)) ((paid_bind setting.program (suc p) (charge Steps 1) (λ u s. f s) (paid_charge setting.program (suc p) Steps 1) (λ u. h)).at st s lt) })
+  stepped z f e h = stmt_does z (record { at = λ st s lt. subst (λ r. Comes setting.program st.world r) (sym (e st)) ((paid_bind setting.program (suc p) (charge Steps 1) (λ u s. f s) (paid_charge setting.program (suc p) Steps 1 (freely setting.program)) (λ u. h)).at st s lt) })
 
   each_stmt : (ss : List SuchStmt) → Each setting.program (suc p) (map (D.does setting again names) (map (λ s. s.0) ss))
   each_stmt [] = none

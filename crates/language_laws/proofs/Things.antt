@@ -37,14 +37,14 @@ use Rattle.language_meaning.specs.Exceptions as X
 use Rattle.language_meaning.specs.Meanings.{Run, truth_of}
 use Rattle.language_meaning.specs.Operations as Ops
 use Rattle.language_laws.proofs.Paid
-use Rattle.language_laws.proofs.Paid.{Paid, paid_gives, paid_leaves, paid_puts, paid_bind, paid_before, paid_charge, paid_throws, paid_unbuilt, paid_calc, paid_known, paid_make}
+use Rattle.language_laws.proofs.Paid.{Paid, paid_gives, paid_leaves, paid_puts, paid_bind, paid_before, freely, paid_charge, paid_throws, paid_unbuilt, paid_calc, paid_known, paid_make}
 use Rattle.language_laws.proofs.Worlds.{Sound, Later, later_same, later_kept}
 
 module _ (program : Program) (n : ℕ) where
   -- ---- operators
 
   pub paid_text : (text : List ℕ) → Paid program n (Ops.text_made text)
-  paid_text text = paid_bind program n (charge Alloc (16 + length text)) _ (paid_charge program n Alloc (16 + length text)) (λ u. paid_gives program n (λ s. Plain (C.Text text)))
+  paid_text text = paid_bind program n (charge Alloc (16 + length text)) _ (paid_charge program n Alloc (16 + length text) (freely program)) (λ u. paid_gives program n (λ s. Plain (C.Text text)))
 
   pub paid_apply : (left : Conversion) (op : TypedOp) (right : Conversion) (v w : Value) → Paid program n (Ops.apply left op right v w)
   paid_apply left Op.Join right v w = paid_text _
@@ -95,11 +95,11 @@ module _ (program : Program) (n : ℕ) where
   paid_on_collection which (Object r) args = record {
     at = λ st h lt.
         (paid_bind program n (charge Alloc (units which r.place args st.world.heap)) (λ u s. Coll.done (method which r.place args s.world.heap) s)
-        (paid_charge program n Alloc (units which r.place args st.world.heap)) (λ u. paid_done (λ s. method which r.place args s.world.heap))).at st h lt;
+        (paid_charge program n Alloc (units which r.place args st.world.heap) (freely program)) (λ u. paid_done (λ s. method which r.place args s.world.heap))).at st h lt;
   }
 
   paid_make_for : (m : ℕ) (thing : Thing) → Paid program n (Coll.make_for m thing)
-  paid_make_for m thing = paid_bind program n (charge Alloc m) _ (paid_charge program n Alloc m) (λ u. paid_make program n thing)
+  paid_make_for m thing = paid_bind program n (charge Alloc m) _ (paid_charge program n Alloc m (freely program)) (λ u. paid_make program n thing)
 
   pub paid_filled : (kind : CollectionKind) (vs : List Value) → Paid program n (Coll.make_filled kind vs)
   paid_filled Kind.List vs = paid_make_for _ _
@@ -110,7 +110,7 @@ module _ (program : Program) (n : ℕ) where
   paid_map ps = paid_make_for _ _
 
   paid_outcome : (o : Outcome) → Paid program n (Coll.make_outcome o)
-  paid_outcome o = paid_bind program n (charge Alloc (units_of None o)) _ (paid_charge program n Alloc (units_of None o)) (λ u. paid_done (λ s. things_done 0 s.world.heap o))
+  paid_outcome o = paid_bind program n (charge Alloc (units_of None o)) _ (paid_charge program n Alloc (units_of None o) (freely program)) (λ u. paid_done (λ s. things_done 0 s.world.heap o))
 
   pub paid_copy : (kind : CollectionKind) (v : Value) → Paid program n (Coll.make_copy kind v)
   paid_copy kind v = record { at = λ st h lt. (paid_outcome (copied (Coll.collection kind) v st.world.heap)).at st h lt }
@@ -119,13 +119,13 @@ module _ (program : Program) (n : ℕ) where
   paid_exception c vs = paid_make_for _ _
 
   pub paid_record : (site : Site) (object : ℕ) (ps : List (ℕ × Value)) → Paid program n (Small.make_record site object ps)
-  paid_record site object ps = paid_bind program n (charge Alloc (32 + 32 * length ps)) _ (paid_charge program n Alloc (32 + 32 * length ps)) (λ u. paid_make program n _)
+  paid_record site object ps = paid_bind program n (charge Alloc (32 + 32 * length ps)) _ (paid_charge program n Alloc (32 + 32 * length ps) (freely program)) (λ u. paid_make program n _)
 
   -- ---- built-in methods
 
   charge_answer : (o : Option ℕ) → Paid program n (Built.charge_answer o)
   charge_answer None = paid_gives program n (λ s. tt)
-  charge_answer (Some m) = paid_charge program n Alloc (16 + m)
+  charge_answer (Some m) = paid_charge program n Alloc (16 + m) (freely program)
 
   answered : (a : Answer) → Paid program n (Built.answered a)
   answered (Answer.Gives c) = paid_gives program n (λ s. Plain c)

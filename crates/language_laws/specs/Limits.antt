@@ -1,13 +1,13 @@
 -- What is to be shown of limits (docs/platform.md, "Limits").
-use Rattle.std.specs.Prelude.{◌≡◌, ℕ, ◌+◌, ◌<◌, ◌≤◌, List, ◌∷◌, ◌++◌, Option}
+use Rattle.std.specs.Prelude.{◌≡◌, ℕ, ◌+◌, ◌<◌, ◌≤◌, Bool, true, false, List, ◌∷◌, ◌++◌, Option}
 use Rattle.apex_num.specs.declared.kind.LimitKind.{LimitKind}
-use Rattle.apex_num.specs.declared.kind.LimitKind.TheVariants.{Queries, Rows, Dml, Saved, Steps}
+use Rattle.apex_num.specs.declared.kind.LimitKind.TheVariants.{Queries, Rows, Dml, Saved, Steps, Calls}
 use Rattle.apex_requests.specs.declared.reply.Counts.{Counts}
 use Rattle.apex_requests.specs.declared.reply.Outcome.TheVariants.{Ok}
 use Rattle.apex_requests.specs.declared.reply.Reply.{Reply}
 use Rattle.apex_rows.specs.declared.query.Answer.{Answer}
 use Rattle.apex_rows.specs.declared.row.Writes.{Writes}
-use Rattle.limit_meter.specs.Charges.{Entry, counter, limit_of}
+use Rattle.limit_meter.specs.Charges.{Entry, Charged, counter, limit_of}
 use Rattle.save_meaning.specs.Results.{Finish, Halts, Gives, Stops, Closes}
 use Rattle.apex_meaning.specs.Refusals.{no_writes}
 use Rattle.apex_meaning.specs.Runs.{Setting, first_state}
@@ -18,6 +18,10 @@ use Rattle.typed_program.specs.declared.stmt.TypedStmt.{TypedStmt}
 use Rattle.typed_program.specs.declared.stmt.TypedStmt.TheOpen.{TypedStmt-F}
 use Rattle.typed_program.specs.declared.stmt.TypedStmt.TheViews.{roll-TypedStmt}
 use Rattle.language_meaning.specs.Runs.{block_does, block_run}
+
+-- with a charge more
+abbrev pub charged_state : LimitKind → ℕ → State → State
+charged_state k n st = record st { world = record (st.world) { txn = record (st.world.txn) { charges = Charged k n ∷ st.world.txn.charges } } }
 
 abbrev pub state_of : Res (Unit {0}) → State
 state_of (Gives u st) = st
@@ -46,16 +50,30 @@ RepliesStayWithin =
     (setting : Setting) (block : List TypedStmt) (tape : List Answer) (reply : Reply) (writes : Writes) →
     block_run setting block tape ≡ Ends reply writes → Within reply.counts
 
--- a block that halts is told by the number behind its limit, and there is a charge that doesn't fit where it halts
+-- kinds that are charged one by one: a query, a statement that saves, a call
+abbrev pub by_ones : LimitKind → Bool
+by_ones Queries = true
+by_ones Dml = true
+by_ones Calls = true
+by_ones _ = false
+
+-- a block that halts is told by the number behind its limit; of what is charged one by one, the counter is at its limit there, so
+-- that it was the first one too many
 pub record Passed (k : LimitKind) (n : ℕ) (charges : List Entry) : Type 0 where
   pub named : n ≡ limit_of k + 1
-  pub amount : ℕ
-  pub above : limit_of k < counter k charges + amount
+  pub full : by_ones k ≡ true → counter k charges ≡ limit_of k
 
 abbrev pub HaltsAreAtCharges : Type 0
 HaltsAreAtCharges =
     (setting : Setting) (block : List TypedStmt) (tape : List Answer) (k : LimitKind) (n : ℕ) (st : State) →
     block_does setting block (first_state tape) ≡ Stops (Closes (Halts k n)) st → Passed k n st.world.txn.charges
+
+-- a charge is made where it fits; where it doesn't, it ends the request by the number behind the limit, and nothing was charged
+abbrev pub ChargesAreExact : Type 0
+ChargesAreExact =
+    (k : LimitKind) (n : ℕ) (st : State) →
+    (counter k st.world.txn.charges + n ≤ limit_of k → charge k n st ≡ Gives tt (charged_state k n st))
+    × (limit_of k < counter k st.world.txn.charges + n → charge k n st ≡ Stops (Closes (Halts k (limit_of k + 1))) st)
 
 -- ---- nothing follows an end that nothing sees, as that of a limit: neither statements behind it, nor what catches, nor what
 -- stands behind `finally`
