@@ -29,9 +29,17 @@ use Rattle.save_meaning.specs.Sites.{Site}
 use Rattle.save_meaning.specs.Results.{Needs, Stop, Leaves, Closes, Res, Gives, Stops, bind}
 use Rattle.save_meaning.specs.Transactions.{Txn}
 use Rattle.save_meaning.specs.Laws.{alone}
-use Rattle.save_statements.specs.Records.{Act, Inserting, ByCode, within}
-use Rattle.save_statements.specs.Phases.{Trigger, Code, Ran}
-use Rattle.save_statements.specs.Statements.{Outcome, Done, Failed, save}
+use Rattle.save_statements.specs.declared.pending.Act.{Act}
+use Rattle.save_statements.specs.declared.pending.Act.TheVariants.{Inserting}
+use Rattle.save_statements.specs.declared.pending.Manner.TheVariants.{ByCode}
+use Rattle.save_statements.specs.declared.firing.Trigger.{Trigger}
+use Rattle.save_statements.specs.declared.firing.Left.{Left}
+use Rattle.save_statements.specs.declared.firing.Fired.TheVariants.{Ran}
+use Rattle.save_statements.specs.declared.statement.RecordOutcome.{RecordOutcome}
+use Rattle.save_statements.specs.declared.statement.RecordOutcome.TheVariants.{Done, Failed}
+use Rattle.save_statements.specs.Records.{within}
+use Rattle.save_statements.specs.Phases.{Code}
+use Rattle.save_statements.specs.Statements.{save}
 
 -- ---- Account; Invoice and its Lines, which name an Account too
 
@@ -95,11 +103,11 @@ abbrev stop : {A : Type 0} → Res Txn Thrown A → Option (Stop Thrown)
 stop (Gives a t) = None
 stop (Stops why t) = Some why
 
-abbrev outcomes : Res Txn Thrown (List Outcome) → List Outcome
+abbrev outcomes : Res Txn Thrown (List RecordOutcome) → List RecordOutcome
 outcomes (Gives os t) = os
 outcomes (Stops why t) = []
 
-abbrev saved : ℕ → Op → ℕ → List SaveRow → Txn → Res Txn Thrown (List Outcome)
+abbrev saved : ℕ → Op → ℕ → List SaveRow → Txn → Res Txn Thrown (List RecordOutcome)
 saved index op o rows t = save alone (here index) none_here op (ByCode Sharing) o true rows t
 
 abbrev record_of : ℕ → Option (List ℕ) → List (Option Cell) → SaveRow
@@ -113,7 +121,7 @@ v1 = codes "a01000100000001"
 abbrev l2 : List ℕ
 l2 = codes "a02000100000002"
 
-abbrev delete_then_update : Res Txn Thrown (List Outcome)
+abbrev delete_then_update : Res Txn Thrown (List RecordOutcome)
 delete_then_update =
     bind (saved 0 Op'.Insert 1 (record_of 0 None (None ∷ None ∷ Some (Text (codes "v")) ∷ []) ∷ []) (fresh (Rows [] ∷ []))) (λ o1 t1.
     bind (saved 0 Op'.Insert 2 (record_of 1 None (None ∷ None ∷ Some (Num (pos 1000000)) ∷ Some (Id v1) ∷ None ∷ []) ∷ []) t1) (λ o2 t2.
@@ -145,7 +153,7 @@ account_row id text = record { object = 0; id = id; cells = Id id ∷ Id (user_i
 abbrev renamed : SaveRow
 renamed = record_of 0 (Some a1) (Some (Id a1) ∷ None ∷ Some (Text (codes "b")) ∷ [])
 
-abbrev update_on : List Answer → Res Txn Thrown (List Outcome)
+abbrev update_on : List Answer → Res Txn Thrown (List RecordOutcome)
 update_on tape = saved 1 Op'.Update 0 (renamed ∷ []) (fresh tape)
 
 update_asks : stop (update_on []) ≡ Some (Closes (Needs (Read 0 (within 0 (a1 ∷ [])))))
@@ -179,7 +187,7 @@ invoice_row = record { object = 1; id = v0; cells = Id v0 ∷ Id (user_id 0) ∷
 abbrev lines : List Row
 lines = l0 (codes "a02000000000001") ∷ l0 (codes "a02000000000002") ∷ []
 
-abbrev cascade_on : List Answer → Res Txn Thrown (List Outcome)
+abbrev cascade_on : List Answer → Res Txn Thrown (List RecordOutcome)
 cascade_on tape = saved 0 Op'.Delete 1 (record_of 0 (Some v0) (Some (Id v0) ∷ None ∷ None ∷ []) ∷ []) (fresh tape)
 
 cascade_asks : stop (cascade_on (Rows (invoice_row ∷ []) ∷ Granted ∷ [])) ≡ Some (Closes (Needs (Read 2 (within 3 (v0 ∷ [])))))
@@ -221,7 +229,7 @@ other_invoice = refl
 
 -- ---- an upsert: inserts before updates, and what came of each in the order of the list
 
-abbrev upserted : Res Txn Thrown (List Outcome)
+abbrev upserted : Res Txn Thrown (List RecordOutcome)
 upserted = saved 1 Op'.Upsert 0 (renamed ∷ record_of 1 None (None ∷ None ∷ Some (Text (codes "c")) ∷ []) ∷ []) (fresh (Rows (account_row a1 (codes "a") ∷ []) ∷ Granted ∷ []))
 
 upsert_outcomes : outcomes upserted ≡ Done a1 ∷ Done (codes "001000100010001") ∷ []
@@ -242,11 +250,11 @@ upsert_fails = refl
 abbrev named : ℕ → SaveRow
 named key = record_of key None (None ∷ None ∷ Some (Text (codes "n")) ∷ [])
 
-abbrev in_part : Code Txn → List SaveRow → Res Txn Thrown (List Outcome)
+abbrev in_part : Code Txn → List SaveRow → Res Txn Thrown (List RecordOutcome)
 in_part code rows = save alone (here 0) code Op'.Insert (ByCode Sharing) 0 false rows (fresh [])
 
 -- what fails is set aside, and the other record is tried again; the first attempt made an Id
-abbrev one_of_two : Res Txn Thrown (List Outcome)
+abbrev one_of_two : Res Txn Thrown (List RecordOutcome)
 one_of_two = in_part none_here (record_of 0 None (None ∷ None ∷ None ∷ []) ∷ named 1 ∷ [])
 
 part_outcomes : outcomes one_of_two ≡ Failed (Error.Required (codes "Name")) ∷ Done (codes "001000100000002") ∷ []
@@ -262,9 +270,9 @@ unfolding chars
 part_rows = refl
 
 -- a trigger before inserts that adds an error to its first record
-abbrev first_fails : List Row → List (Row × Option (List ℕ))
+abbrev first_fails : List Row → List Left
 first_fails [] = []
-first_fails (r ∷ rs) = (r, Some (codes "no")) ∷ map (λ (s : Row). (s, None)) rs
+first_fails (r ∷ rs) = record { row = r; message = Some (codes "no") } ∷ map (λ (s : Row). record { row = s; message = None }) rs
 
 abbrev before_inserts : Act → Bool → List Trigger
 before_inserts Inserting true = record { name = codes "T"; number = 0 } ∷ []
@@ -273,7 +281,7 @@ before_inserts _ _ = []
 abbrev with_trigger : Code Txn
 with_trigger = record { triggers = λ o act before. before_inserts act before; fire = λ n c s. Gives (Ran (first_fails c.news)) s; roll_up = λ o rs s. Gives rs s }
 
-abbrev five : Res Txn Thrown (List Outcome)
+abbrev five : Res Txn Thrown (List RecordOutcome)
 five = in_part with_trigger (named 0 ∷ named 1 ∷ named 2 ∷ named 3 ∷ named 4 ∷ [])
 
 five_outcomes : outcomes five ≡ Failed (Error.Custom (codes "no")) ∷ Failed (Error.Custom (codes "no")) ∷ Failed (Error.Custom (codes "no")) ∷ Failed Error.TooManyRetries ∷ Failed Error.TooManyRetries ∷ []

@@ -13,10 +13,13 @@ use Rattle.row_meaning.specs.Overlays.{Overlay}
 use Rattle.save_meaning.specs.Sites.{Site}
 use Rattle.save_meaning.specs.Results.{Stop, Leaves, Closes, Res, Gives, Stops, bind, leaving, Holds}
 use Rattle.save_meaning.specs.Transactions.{Keeps, IsKept, charge_if, charge}
-use Rattle.save_statements.specs.Records.{Manner}
+use Rattle.save_statements.specs.declared.pending.Manner.{Manner}
 use Rattle.save_statements.specs.Phases.{Code}
 use Rattle.save_statements.specs.Statements as St
-use Rattle.save_statements.specs.Statements.{Chunk, Told, Outcome, first_failed, told}
+use Rattle.save_statements.specs.declared.statement.Chunk.{Chunk}
+use Rattle.save_statements.specs.declared.statement.Told.{Told}
+use Rattle.save_statements.specs.declared.statement.RecordOutcome.{RecordOutcome}
+use Rattle.save_statements.specs.Statements.{first_failed, told}
 use Rattle.save_meaning.specs.Inserts.{is_double, first_again}
 use Rattle.save_statements.specs.Laws.{FailedSavesChangeNothing}
 
@@ -56,8 +59,8 @@ module _ {S : Type 0} (keeps : Keeps S) (kept : IsKept keeps) where
     spares_chunks : (o : Object) (v : Overlay) (cs : List Chunk) (s : S) → Spares v (St.all_or_none keeps site code op by object o v cs s)
     spares_chunks o v [] s = tt
     spares_chunks o v (c ∷ cs) s =
-        spares_bind v (St.chunk keeps site code op by object c.0 o (St.unplaced c.1) s) _ (never v _)
-        (λ rs s1. spares_settle (first_failed (told c.1 rs)) v (told c.1 rs) (St.all_or_none keeps site code op by object o v cs) s1 (λ s2. spares_chunks o v cs s2))
+        spares_bind v (St.chunk keeps site code op by object c.act o (St.unplaced c.rows) s) _ (never v _)
+        (λ rs s1. spares_settle (first_failed (told c.rows rs)) v (told c.rows rs) (St.all_or_none keeps site code op by object o v cs) s1 (λ s2. spares_chunks o v cs s2))
 
     spares_object : (o : Option Object) (rows : List SaveRow) (v : Overlay) (s : S) → (keeps.txn s).overlay ≡ v → Spares v (St.of_object keeps site code op by object true o rows s)
     spares_object None rows v s e = tt
@@ -66,7 +69,7 @@ module _ {S : Type 0} (keeps : Keeps S) (kept : IsKept keeps) where
         (subst (λ start. Spares v (St.all_or_none keeps site code op by object o start (St.chunks op (St.placed 0 rows)) s)) (sym e) (spares_chunks o v (St.chunks op (St.placed 0 rows)) s))
         (λ ts s1. tt)
 
-    spares_double : (b : Bool) (again : Option (List ℕ)) (go : S → Res S Thrown (List Outcome)) (v : Overlay) (s : S) → (keeps.txn s).overlay ≡ v → Spares v (go s) →
+    spares_double : (b : Bool) (again : Option (List ℕ)) (go : S → Res S Thrown (List RecordOutcome)) (v : Overlay) (s : S) → (keeps.txn s).overlay ≡ v → Spares v (go s) →
         Spares v (St.without_double keeps site code op by object b again go s)
     spares_double true again go v s e h = e
     spares_double false (Some id) go v s e h = e
@@ -82,5 +85,5 @@ module _ {S : Type 0} (keeps : Keeps S) (kept : IsKept keeps) where
     pub failed_save : (rows : List SaveRow) (s later : S) (why : Thrown) → St.save keeps site code op by object true rows s ≡ Stops (Leaves why) later → (keeps.txn later).overlay ≡ (keeps.txn s).overlay
     failed_save rows s later why e = subst (Spares (keeps.txn s).overlay) e (spares_save rows s)
 
-pub failed_saves : FailedSavesChangeNothing
+pub failed_saves : (S : Type 0) → FailedSavesChangeNothing S
 failed_saves S keeps kept site code op by object rows s later why e = failed_save keeps kept site code op by object rows s later why e

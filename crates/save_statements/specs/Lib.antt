@@ -1,4 +1,10 @@
 pub mod Records
+pub mod Inquiries
+pub mod Loading
+pub mod Checks
+pub mod Firings
 pub mod Phases
 pub mod Statements
 pub mod Laws
+pub mod Moves
+pub mod MoveLaws

@@ -7,7 +7,6 @@ use Rattle.platform_errors.specs.declared.record.RecordError.{RecordError}
 use Rattle.apex_schema.specs.declared.schema.FieldKind.{FieldKind}
 use Rattle.apex_schema.specs.declared.schema.FieldKind.TheVariants as Kind
 use Rattle.apex_schema.specs.declared.schema.Field.{Field}
-use Rattle.apex_schema.specs.declared.schema.Mode.{Mode}
 use Rattle.apex_schema.specs.declared.schema.Object.{Object}
 use Rattle.apex_schema.specs.declared.schema.Schema.{Schema}
 use Rattle.apex_rows.specs.declared.query.Cond.{Cond}
@@ -22,35 +21,17 @@ use Rattle.row_meaning.specs.Conds.{cell_of}
 use Rattle.row_meaning.specs.Rules.{equals}
 use Rattle.row_meaning.specs.Stores.{has_id}
 use Rattle.row_meaning.specs.Users.{user_id}
-
--- what is done with the records of a chunk; an upsert has chunks of the first two
-pub data Act : Type 0 where
-  Inserting : Act
-  Updating : Act
-  Deleting : Act
+use Rattle.save_statements.specs.declared.pending.Act.{Act}
+use Rattle.save_statements.specs.declared.pending.Act.TheVariants.{Inserting, Updating, Deleting}
+use Rattle.save_statements.specs.declared.pending.Pending.{Pending}
+use Rattle.save_statements.specs.declared.pending.Record.{Record}
+use Rattle.save_statements.specs.declared.pending.Record.TheVariants.{Going, Wrong}
+use Rattle.save_statements.specs.declared.pending.Naming.{Naming}
 
 abbrev pub op_of : Act → Op
 op_of Inserting = Op'.Insert
 op_of Updating = Op'.Update
 op_of Deleting = Op'.Delete
-
--- for whom: for code in a mode, or for the roll-ups of rows under the records
-pub data Manner : Type 0 where
-  ByCode : Mode → Manner
-  ByRollUps : Manner
-
--- a row on its way: what it would be, or in a delete the row that goes; in an update what it was; what it was when its
--- references were looked up last; and in a delete the Ids of all that goes, its own among them
-pub record Pending : Type 0 where
-  pub row : Row
-  pub old : Option Row
-  pub seen : Option Row
-  pub under : List (List ℕ)
-
--- a record goes on, or has its first error
-pub data Record : Type 0 where
-  Going : Pending → Record
-  Wrong : RecordError → Record
 
 abbrev pub pending : Row → Option Row → Pending
 pending row old = record { row = row; old = old; seen = None; under = [] }
@@ -92,12 +73,6 @@ changes field row None = false
 changes field row (Some was) = is_new field row (Some was)
 
 -- ---- fields that name rows
-
--- a field of an object, and the object whose rows it names
-pub record Naming : Type 0 where
-  pub object : ℕ
-  pub field : ℕ
-  pub to : ℕ
 
 abbrev pub master_to : FieldKind → Option ℕ
 master_to (Kind.MasterDetail link) = Some link.to

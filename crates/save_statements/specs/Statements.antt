@@ -14,24 +14,25 @@ use Rattle.save_meaning.specs.Sites.{Site}
 use Rattle.save_meaning.specs.Results.{Leaves, Res, Gives, Stops, bind, leaving}
 use Rattle.save_meaning.specs.Transactions.{Keeps, charge, set_overlay}
 use Rattle.save_meaning.specs.Inserts.{is_double, first_again, chunk_most}
-use Rattle.save_statements.specs.Records.{Act, Inserting, Updating, Deleting, Manner, Record, Going, Wrong}
+use Rattle.save_statements.specs.declared.pending.Act.{Act}
+use Rattle.save_statements.specs.declared.pending.Act.TheVariants.{Inserting, Updating, Deleting}
+use Rattle.save_statements.specs.declared.pending.Manner.{Manner}
+use Rattle.save_statements.specs.declared.pending.Record.{Record}
+use Rattle.save_statements.specs.declared.pending.Record.TheVariants.{Going, Wrong}
+use Rattle.save_statements.specs.declared.statement.Placed.{Placed}
+use Rattle.save_statements.specs.declared.statement.RecordOutcome.{RecordOutcome}
+use Rattle.save_statements.specs.declared.statement.RecordOutcome.TheVariants.{Done, Failed}
+use Rattle.save_statements.specs.declared.statement.Told.{Told}
+use Rattle.save_statements.specs.declared.statement.Chunk.{Chunk}
 use Rattle.save_statements.specs.Phases.{Code, save_chunk}
 
--- a record with its place in the list of its statement
-abbrev pub Placed : Type 0
-Placed = ℕ × SaveRow
-
--- what comes of a record
-pub data Outcome : Type 0 where
-  Done : List ℕ → Outcome
-  Failed : RecordError → Outcome
-
-abbrev pub Told : Type 0
-Told = ℕ × Outcome
-
+-- each record with its place in the list, from this one on
 abbrev pub placed : ℕ → List SaveRow → List Placed
 placed n [] = []
-placed n (r ∷ rs) = (n, r) ∷ placed (suc n) rs
+placed n (r ∷ rs) = record { place = n; row = r } ∷ placed (suc n) rs
+
+abbrev pub unplaced : List Placed → List SaveRow
+unplaced rs = map (λ (r : Placed). r.row) rs
 
 abbrev pub has_id : Option (List ℕ) → Bool
 has_id None = false
@@ -39,12 +40,8 @@ has_id (Some id) = true
 
 -- ---- chunks
 
--- what is done with at most so many records
-abbrev pub Chunk : Type 0
-Chunk = Act × List Placed
-
 abbrev pub cut : ℕ → Act → List Placed → List Chunk
-cut (suc n) act (r ∷ rs) = (act, take chunk_most (r ∷ rs)) ∷ cut n act (drop chunk_most (r ∷ rs))
+cut (suc n) act (r ∷ rs) = record { act = act; rows = take chunk_most (r ∷ rs) } ∷ cut n act (drop chunk_most (r ∷ rs))
 cut _ act _ = []
 
 abbrev pub all_cut : Act → List Placed → List Chunk
@@ -55,56 +52,57 @@ abbrev pub chunks : Op → List Placed → List Chunk
 chunks Op'.Insert rs = all_cut Inserting rs
 chunks Op'.Update rs = all_cut Updating rs
 chunks Op'.Delete rs = all_cut Deleting rs
-chunks Op'.Upsert rs = all_cut Inserting (filter (λ (r : Placed). cond (has_id r.1.id) false true) rs) ++ all_cut Updating (filter (λ (r : Placed). has_id r.1.id) rs)
-
-abbrev pub unplaced : List Placed → List SaveRow
-unplaced rs = map (λ (r : Placed). r.1) rs
+chunks Op'.Upsert rs = all_cut Inserting (filter (λ (r : Placed). cond (has_id r.row.id) false true) rs) ++ all_cut Updating (filter (λ (r : Placed). has_id r.row.id) rs)
 
 -- ---- what came of the records of a chunk
 
-abbrev pub outcome : Record → Outcome
+abbrev pub outcome : Record → RecordOutcome
 outcome (Going p) = Done p.row.id
 outcome (Wrong e) = Failed e
 
 abbrev pub told : List Placed → List Record → List Told
-told (r ∷ rs) (d ∷ ds) = (r.0, outcome d) ∷ told rs ds
+told (r ∷ rs) (d ∷ ds) = record { place = r.place; outcome = outcome d } ∷ told rs ds
 told _ _ = []
 
-abbrev pub or_first : ℕ → Outcome → Option (ℕ × RecordError) → Option (ℕ × RecordError)
+abbrev pub or_first : ℕ → RecordOutcome → Option (ℕ × RecordError) → Option (ℕ × RecordError)
 or_first n (Done id) later = later
 or_first n (Failed e) later = Some (n, e)
 
 abbrev pub first_failed : List Told → Option (ℕ × RecordError)
 first_failed [] = None
-first_failed (t ∷ ts) = or_first t.0 t.1 (first_failed ts)
+first_failed (t ∷ ts) = or_first t.place t.outcome (first_failed ts)
 
-abbrev pub is_failed : Outcome → Bool
+abbrev pub is_failed : RecordOutcome → Bool
 is_failed (Done id) = false
 is_failed (Failed e) = true
 
 abbrev pub failed_in : List Told → List Told
-failed_in ts = filter (λ (t : Told). is_failed t.1) ts
+failed_in ts = filter (λ (t : Told). is_failed t.outcome) ts
 
 -- the records that didn't fail
 abbrev pub left_over : List Placed → List Told → List Placed
-left_over (r ∷ rs) (t ∷ ts) = cond (is_failed t.1) (left_over rs ts) (r ∷ left_over rs ts)
+left_over (r ∷ rs) (t ∷ ts) = cond (is_failed t.outcome) (left_over rs ts) (r ∷ left_over rs ts)
 left_over _ _ = []
 
 -- those that would have been saved are given up
-abbrev pub given_up_one : Outcome → Outcome
+abbrev pub given_up_one : RecordOutcome → RecordOutcome
 given_up_one (Done id) = Failed Error.TooManyRetries
 given_up_one (Failed e) = Failed e
 
 abbrev pub given_up : List Told → List Told
-given_up ts = map (λ (t : Told). (t.0, given_up_one t.1)) ts
+given_up ts = map (λ (t : Told). record t { outcome = given_up_one t.outcome }) ts
 
 -- in the order of the statement's list
-abbrev pub at_place : ℕ → List Told → List Outcome
-at_place n ts = map (λ (t : Told). t.1) (filter (λ (t : Told). eqb t.0 n) ts)
+abbrev pub at_place : ℕ → List Told → List RecordOutcome
+at_place n ts = map (λ (t : Told). t.outcome) (filter (λ (t : Told). eqb t.place n) ts)
 
-abbrev pub in_order : ℕ → List SaveRow → List Told → List Outcome
+abbrev pub in_order : ℕ → List SaveRow → List Told → List RecordOutcome
 in_order n [] ts = []
 in_order n (r ∷ rs) ts = at_place n ts ++ in_order (suc n) rs ts
+
+-- the most attempts at a chunk that is saved in part
+abbrev pub most_attempts : ℕ
+most_attempts = 3
 
 module _ {S : Type 0} (keeps : Keeps S) (site : Site) (code : Code S) (op : Op) (by : Manner) (object : ℕ) where
   -- a chunk throws nothing
@@ -121,7 +119,7 @@ module _ {S : Type 0} (keeps : Keeps S) (site : Site) (code : Code S) (op : Op) 
   abbrev pub all_or_none : Object → Overlay → List Chunk → S → Res S Thrown (List Told)
   all_or_none o start [] s = Gives [] s
   all_or_none o start (c ∷ cs) s =
-      bind (chunk c.0 o (unplaced c.1) s) (λ rs s1. settle (first_failed (told c.1 rs)) start (told c.1 rs) (all_or_none o start cs) s1)
+      bind (chunk c.act o (unplaced c.rows) s) (λ rs s1. settle (first_failed (told c.rows rs)) start (told c.rows rs) (all_or_none o start cs) s1)
 
   -- ---- in part
 
@@ -139,12 +137,9 @@ module _ {S : Type 0} (keeps : Keeps S) (site : Site) (code : Code S) (op : Op) 
       after (failed_in (told (r ∷ rs) ds)) (eqb n 0) (attempts n act o) (keeps.txn s).overlay (r ∷ rs) (told (r ∷ rs) ds) s1)
   attempts _ act o _ s = Gives [] s
 
-  abbrev pub most_attempts : ℕ
-  most_attempts = 3
-
   abbrev pub in_part : Object → List Chunk → S → Res S Thrown (List Told)
   in_part o [] s = Gives [] s
-  in_part o (c ∷ cs) s = bind (attempts most_attempts c.0 o c.1 s) (λ ts s1. bind (in_part o cs s1) (λ more s2. Gives (ts ++ more) s2))
+  in_part o (c ∷ cs) s = bind (attempts most_attempts c.act o c.rows s) (λ ts s1. bind (in_part o cs s1) (λ more s2. Gives (ts ++ more) s2))
 
   -- ---- the statement
 
@@ -152,17 +147,17 @@ module _ {S : Type 0} (keeps : Keeps S) (site : Site) (code : Code S) (op : Op) 
   in_chunks true o cs s = all_or_none o (keeps.txn s).overlay cs s
   in_chunks false o cs s = in_part o cs s
 
-  abbrev pub of_object : Bool → Option Object → List SaveRow → S → Res S Thrown (List Outcome)
+  abbrev pub of_object : Bool → Option Object → List SaveRow → S → Res S Thrown (List RecordOutcome)
   of_object all None rows s = Gives [] s
   of_object all (Some o) rows s = bind (in_chunks all o (chunks op (placed 0 rows)) s) (λ ts s1. Gives (in_order 0 rows ts) s1)
 
-  abbrev pub without_double : Bool → Option (List ℕ) → (S → Res S Thrown (List Outcome)) → S → Res S Thrown (List Outcome)
+  abbrev pub without_double : Bool → Option (List ℕ) → (S → Res S Thrown (List RecordOutcome)) → S → Res S Thrown (List RecordOutcome)
   without_double true again go s = Stops (Leaves Throw.DuplicateRecord) s
   without_double false (Some id) go s = Stops (Leaves (Throw.DuplicateId id)) s
   without_double false None go s = go s
 
   -- the records are saved, all or none or in part, and what came of each is answered
-  abbrev pub save : Bool → List SaveRow → S → Res S Thrown (List Outcome)
+  abbrev pub save : Bool → List SaveRow → S → Res S Thrown (List RecordOutcome)
   save all rows s =
       bind (charge keeps Dml 1 s) (λ u s1.
       bind (charge keeps Saved (length rows) s1) (λ v s2.
