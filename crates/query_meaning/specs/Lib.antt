@@ -1,0 +1,4 @@
+pub mod Questions
+pub mod Parents
+pub mod Queries
+pub mod Laws
