@@ -1,0 +1,11 @@
+//! Lists of turns: whose turn it is, one behind the other, as the words of the command line say it (docs/formats.md,
+//! "Commands").
+#![tactic(auto)]
+
+mod fault;
+mod list;
+mod turn;
+
+pub use fault::TurnsFault;
+pub use list::read_turns;
+pub use turn::Turn;
