@@ -1,6 +1,6 @@
 #!/bin/sh
-# How long code runs, beside python3 on the same code, in one run: a loop of sums, calls of a recursive method, and texts that
-# grow. Usage: bench/run.sh [PROGRAM], which is apexd as it was built by default. Each figure is the median of five runs of a
+# How long code runs, beside python3 on the same code, in one run: loops of sums, lists, texts that grow, and calls of a recursive
+# method. Usage: bench/run.sh [PROGRAM], which is apexd as it was built by default. Each figure is the median of five runs of a
 # whole process, less that of an empty block or an empty script. A ratio above 1 says that apexd is faster.
 set -eu
 top=$(CDPATH='' cd -- "$(dirname -- "$0")/.." && pwd)
@@ -71,6 +71,21 @@ def main():
 main()
 P
 
+# A bundle of one tenant, whose session runs this block once.
+bundle() {
+    printf '{"version":1,"tenants":[{"name":"t","users":[{"name":"u"}],"objects":[],"units":[{"name":"F","text":"%s"}],"sessions":[{"user":"u","requests":[{"apex":"%s"}]}]}]}' "$1" "$2"
+}
+unit='public class F { public static Integer fib(Integer n) { if (n < 2) { return n; } return fib(n - 1) + fib(n - 2); } }'
+bundle "$unit" 'System.debug(F.fib(22));' >"$folder/calls.apex"
+bundle "$unit" 'System.debug(1);' >"$folder/uncalled.apex"
+cat >"$folder/calls.py" <<'P'
+def fib(n):
+    if n < 2:
+        return n
+    return fib(n - 1) + fib(n - 2)
+print(fib(22))
+P
+
 # The nanoseconds of a run, the median of five.
 median() {
     for _ in 1 2 3 4 5; do
@@ -81,12 +96,19 @@ print(time.perf_counter_ns() - start)' "$@"
     done | sort -n | sed -n 3p
 }
 
+# A name, ours and theirs.
+tell() {
+    awk -v name="$1" -v ours="$2" -v peer="$3" 'BEGIN {
+        printf "%-8s apexd %8.1f ms   python3 %8.1f ms   ratio %.2f\n", name, ours / 1e6, peer / 1e6, peer / ours
+    }'
+}
+
 ours_empty=$(median "$folder/empty.apex" "$program" exec)
 peer_empty=$(median /dev/null python3 "$folder/empty.py")
 for name in sums nested lists texts; do
     ours=$(median "$folder/$name.apex" "$program" exec)
     peer=$(median /dev/null python3 "$folder/$name.py")
-    awk -v name="$name" -v ours=$((ours - ours_empty)) -v peer=$((peer - peer_empty)) 'BEGIN {
-        printf "%-8s apexd %8.1f ms   python3 %8.1f ms   ratio %.2f\n", name, ours / 1e6, peer / 1e6, peer / ours
-    }'
+    tell "$name" $((ours - ours_empty)) $((peer - peer_empty))
 done
+ours_empty=$(median "$folder/uncalled.apex" "$program" turns -)
+tell calls $(($(median "$folder/calls.apex" "$program" turns -) - ours_empty)) $(($(median /dev/null python3 "$folder/calls.py") - peer_empty))
