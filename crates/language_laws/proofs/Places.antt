@@ -9,7 +9,7 @@ use Rattle.platform_errors.specs.declared.thrown.Thrown.TheVariants.{NullObject,
 use Rattle.save_meaning.specs.Results.{Gives}
 use Rattle.apex_meaning.specs.Runs.{Setting}
 use Rattle.apex_meaning.specs.Expressions as Small
-use Rattle.apex_meaning.specs.States.{charge, with_line, set_local}
+use Rattle.apex_meaning.specs.States.{charge, with_heap, with_line, set_local}
 use Rattle.apex_meaning.specs.Values.{null}
 use Rattle.txn_heap.specs.Statics.{static_at, with_static}
 use Rattle.txn_heap.specs.declared.thing.Thing.{Thing}
@@ -56,20 +56,44 @@ module _ (program : Program) (n : ℕ) where
   paid_set_field place (Plain c) v = paid_throws program n NullObject
   paid_set_field place (Object r) v = record { at = λ st h lt. (set_in_thing place v r.place (slice_get st.world.heap r.place)).at st h lt }
 
+  -- ---- cells of records
+
+  cell_of_thing : (field : ℕ) (o : Option Thing) → Paid program n (Pl.cell_of_thing field o)
+  cell_of_thing field (Some (T.Record r)) = paid_gives program n (λ s. Pl.cell_or_null (slice_index_or r.cells field None))
+  cell_of_thing field o = paid_throws program n NullObject
+
+  null_in_front : (goes_on : Bool) → Paid program n (Pl.null_in_front goes_on)
+  null_in_front true = paid_gives program n (λ s. null)
+  null_in_front false = paid_throws program n NullObject
+
+  pub paid_cell_at : (field : ℕ) (goes_on : Bool) (v : Value) → Paid program n (Pl.cell_at field goes_on v)
+  paid_cell_at field goes_on (Plain c) = null_in_front goes_on
+  paid_cell_at field goes_on (Object r) = record { at = λ st h lt. (cell_of_thing field (slice_get st.world.heap r.place)).at st h lt }
+
+  set_cell_in_thing : (field : ℕ) (v : Value) (at : ℕ) (o : Option Thing) → Paid program n (Pl.set_cell_in_thing field v at o)
+  set_cell_in_thing field v at (Some (T.Record r)) =
+      paid_bind program n (charge Alloc (Pl.setting_units (slice_index_or r.cells field None))) _ (paid_charge program n Alloc (Pl.setting_units (slice_index_or r.cells field None)) (freely program))
+      (λ u. paid_puts program n (λ s. tt) (λ s. with_heap (Pl.with_cell field v at s.world.heap) s) (λ s h. later_kept program s.world _ h refl refl refl))
+  set_cell_in_thing field v at o = paid_throws program n NullObject
+
+  pub paid_set_cell : (field : ℕ) (o v : Value) → Paid program n (Pl.set_cell field o v)
+  paid_set_cell field (Plain c) v = paid_throws program n NullObject
+  paid_set_cell field (Object r) v = record { at = λ st h lt. (set_cell_in_thing field v r.place (slice_get st.world.heap r.place)).at st h lt }
+
   -- ---- all variables
 
   pub paid_load : (t : Target) → Paid program n (Pl.load program t)
   paid_load (LocalAt x) = paid_gives program n (λ s. slice_index_or s.here.locals x null)
   paid_load (StaticAt c k) = paid_gives program n (λ s. or_null (static_at c k s.world.statics))
   paid_load (FieldAt v c k) = paid_field_in (field_place program c k) v
-  paid_load (CellAt v object field) = paid_unbuilt program n
+  paid_load (CellAt v object field) = paid_cell_at field false v
   paid_load (ItemAt list at) = paid_on_collection program n (B.List L.Get) list (at ∷ [])
 
   pub paid_store : (t : Target) (v : Value) → Paid program n (Pl.store program t v)
   paid_store (LocalAt x) v = paid_puts program n (λ s. tt) (set_local x v) (λ s h. later_same program s.world h)
   paid_store (StaticAt c k) v = paid_puts program n (λ s. tt) (λ s. with_statics (with_static c k v s.world.statics) s) (λ s h. later_statics program s.world _ h (stay_written c k v s.world.statics))
   paid_store (FieldAt o c k) v = paid_set_field (field_place program c k) o v
-  paid_store (CellAt o object field) v = paid_unbuilt program n
+  paid_store (CellAt o object field) v = paid_set_cell field o v
   paid_store (ItemAt list at) v = paid_bind program n _ _ (paid_on_collection program n (B.List L.Set) list (at ∷ v ∷ [])) (λ u. paid_gives program n (λ s. tt))
 
   -- ---- casts and constants

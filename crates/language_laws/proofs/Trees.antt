@@ -264,7 +264,7 @@ module _ (setting : Setting) (again : Again) (names : List (List ℕ)) (p : ℕ)
   part_layer (TypedPart-F.Call c m virtual es) v = part_does (TypedPart-F.Call c m virtual (map (λ x. x.0) es)) v (paid_bind setting.program (suc p) (all_of (map expr_run (map (λ x. x.0) es))) _ (values es) (λ vs. Pl.paid_call_on setting again p enough c m virtual vs v))
   part_layer (TypedPart-F.Builtin which es) v =
       part_does (TypedPart-F.Builtin which (map (λ x. x.0) es)) v (paid_bind setting.program (suc p) (all_of (map expr_run (map (λ x. x.0) es))) _ (values es) (λ vs. Th.paid_builtin setting.program (suc p) setting.ticket which (v ∷ vs)))
-  part_layer (TypedPart-F.«TypedPart::Cell» a b c) v = part_does (TypedPart-F.«TypedPart::Cell» a b c) v (paid_unbuilt setting.program (suc p))
+  part_layer (TypedPart-F.«TypedPart::Cell» a b c) v = part_does (TypedPart-F.«TypedPart::Cell» a b c) v (Pl.paid_cell_at setting.program (suc p) b c v)
   part_layer (TypedPart-F.Parent a b c) v = part_does (TypedPart-F.Parent a b c) v (paid_unbuilt setting.program (suc p))
   part_layer (TypedPart-F.Children a b c) v = part_does (TypedPart-F.Children a b c) v (paid_unbuilt setting.program (suc p))
 

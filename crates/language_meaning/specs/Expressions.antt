@@ -38,7 +38,7 @@ use Rattle.language_meaning.specs.Collections.{on_collection, make_filled, make_
 use Rattle.language_meaning.specs.Exceptions.{Kind, Declared, kind_of_thing, is_declared, is_built_in}
 use Rattle.language_meaning.specs.Meanings.{Again, Body, Method, Do, Run, Behind, all_of, calc, called, test, truth_of}
 use Rattle.language_meaning.specs.Operations.{boolean, operated, chained}
-use Rattle.language_meaning.specs.Places.{Target, LocalAt, StaticAt, FieldAt, CellAt, ItemAt, got, assigned, assigned_with, changed, field_in}
+use Rattle.language_meaning.specs.Places.{Target, LocalAt, StaticAt, FieldAt, CellAt, ItemAt, got, assigned, assigned_with, changed, cell_at, field_in}
 use Rattle.language_meaning.specs.Preparing.{prepared, new_instance}
 
 -- a variable, once its parts are evaluated
@@ -106,6 +106,7 @@ module _ (setting : Setting) (again : Again) where
 
   abbrev pub part_step : TypedPart-F Run Run Run Behind Where Entry Behind (ℕ × Run) → Behind
   part_step (TypedPart-F.«TypedPart::Field» c n) v st = field_in (field_place setting.program c n) v st
+  part_step (TypedPart-F.«TypedPart::Cell» object field goes_on) v st = cell_at field goes_on v st
   part_step (TypedPart-F.«TypedPart::Index» e) v st = bind (e st) (λ i s. on_collection (B.List L.Get) v (i ∷ []) s)
   part_step (TypedPart-F.Call c m virtual es) v st = bind (all_of es st) (λ args s. call_on c m virtual args v s)
   part_step (TypedPart-F.Builtin which es) v st = bind (all_of es st) (λ args s. called_builtin setting.program setting.ticket which (v ∷ args) s)

@@ -1,10 +1,12 @@
 -- Variables that are read and assigned to (docs/language.md, "What code does").
 use Rattle.std.specs.Prelude.{ℕ, Bool, true, false, cond, List, [], ◌∷◌, slice_get, slice_index_or, Option, None, Some}
+use Rattle.apex_num.specs.declared.cell.Cell.{Cell}
+use Rattle.apex_num.specs.declared.kind.LimitKind.TheVariants.{Alloc}
 use Rattle.builtin_table.specs.declared.method.Builtin.TheVariants as B
 use Rattle.builtin_table.specs.declared.method.ListMethod.TheVariants as L
 use Rattle.platform_errors.specs.declared.thrown.Thrown.TheVariants.{NullObject}
 use Rattle.save_meaning.specs.Results.{Gives, bind}
-use Rattle.apex_meaning.specs.States.{State, Res, set_local, throws, unbuilt, with_heap}
+use Rattle.apex_meaning.specs.States.{State, Res, charge, set_local, throws, with_heap}
 use Rattle.apex_meaning.specs.Values.{null}
 use Rattle.txn_heap.specs.declared.thing.Thing.{Thing}
 use Rattle.txn_heap.specs.declared.thing.Thing.TheVariants as T
@@ -19,6 +21,7 @@ use Rattle.typed_program.specs.declared.expr.Number.{Number}
 use Rattle.typed_program.specs.declared.expr.StepKind.{StepKind}
 use Rattle.typed_program.specs.declared.program.Program.{Program}
 use Rattle.value_operators.specs.Operators.{converted, stepped}
+use Rattle.language_meaning.specs.Builtins.{cell_in}
 use Rattle.language_meaning.specs.Classes.{field_place}
 use Rattle.language_meaning.specs.Collections.{on_collection}
 use Rattle.language_meaning.specs.Meanings.{Again, Do, Run, Behind, calc}
@@ -54,6 +57,44 @@ abbrev pub set_field : ℕ → Value → Value → Do
 set_field place (Plain c) v st = throws NullObject st
 set_field place (Object r) v st = set_in_thing place v r.place (slice_get st.world.heap r.place) st
 
+-- ---- cells of records
+
+-- a cell that the record doesn't know is null
+abbrev pub cell_or_null : Option Cell → Value
+cell_or_null None = null
+cell_or_null (Some c) = Plain c
+
+abbrev pub cell_of_thing : ℕ → Option Thing → Run
+cell_of_thing field (Some (T.Record r)) st = Gives (cell_or_null (slice_index_or r.cells field None)) st
+cell_of_thing field _ st = throws NullObject st
+
+-- a null in front of a path: where the path goes on with it, it is what is found
+abbrev pub null_in_front : Bool → Run
+null_in_front true st = Gives null st
+null_in_front false st = throws NullObject st
+
+abbrev pub cell_at : ℕ → Bool → Value → Run
+cell_at field goes_on (Plain c) st = null_in_front goes_on st
+cell_at field goes_on (Object r) st = cell_of_thing field (slice_get st.world.heap r.place) st
+
+-- a cell costs 32 units where the record didn't know it before
+abbrev pub setting_units : Option Cell → ℕ
+setting_units None = 32
+setting_units (Some c) = 0
+
+-- the things, where a record knows this cell
+abbrev pub with_cell : ℕ → Value → ℕ → List Thing → List Thing
+with_cell field v at things = things_changed at (thing_after (Now.Know field (cell_in v))) things
+
+abbrev pub set_cell_in_thing : ℕ → Value → ℕ → Option Thing → Do
+set_cell_in_thing field v at (Some (T.Record r)) st =
+    bind (charge Alloc (setting_units (slice_index_or r.cells field None)) st) (λ u s. Gives tt (with_heap (with_cell field v at s.world.heap) s))
+set_cell_in_thing field v at _ st = throws NullObject st
+
+abbrev pub set_cell : ℕ → Value → Value → Do
+set_cell field (Plain c) v st = throws NullObject st
+set_cell field (Object r) v st = set_cell_in_thing field v r.place (slice_get st.world.heap r.place) st
+
 -- ---- all variables
 
 module _ (program : Program) where
@@ -61,14 +102,14 @@ module _ (program : Program) where
   load (LocalAt x) st = Gives (slice_index_or st.here.locals x null) st
   load (StaticAt c n) st = Gives (or_null (static_at c n st.world.statics)) st
   load (FieldAt v c n) st = field_in (field_place program c n) v st
-  load (CellAt v object field) st = unbuilt st
+  load (CellAt v object field) st = cell_at field false v st
   load (ItemAt list at) st = on_collection (B.List L.Get) list (at ∷ []) st
 
   abbrev pub store : Target → Value → Do
   store (LocalAt x) v st = Gives tt (set_local x v st)
   store (StaticAt c n) v st = Gives tt (with_statics (with_static c n v st.world.statics) st)
   store (FieldAt o c n) v st = set_field (field_place program c n) o v st
-  store (CellAt o object field) v st = unbuilt st
+  store (CellAt o object field) v st = set_cell field o v st
   store (ItemAt list at) v st = bind (on_collection (B.List L.Set) list (at ∷ v ∷ []) st) (λ u s. Gives tt s)
 
 module _ (program : Program) (again : Again) where

@@ -3,7 +3,10 @@ use Rattle.std.proofs.Common.{◌≡◌, ℕ, zero, suc, ◌+◌, ◌-◌, ◌*�
 use Rattle.std.specs.Prelude.{slice_get}
 use Rattle.apex_num.specs.declared.kind.LimitKind.TheVariants.{Steps}
 use Rattle.apex_requests.specs.declared.reply.Outcome.{Outcome}
+use Rattle.apex_schema.specs.declared.schema.Access.TheVariants.{Edit}
+use Rattle.apex_schema.specs.declared.schema.FieldKind.TheVariants as Kind
 use Rattle.apex_schema.specs.declared.schema.Mode.{Mode}
+use Rattle.apex_schema.specs.declared.schema.Object.{Object}
 use Rattle.save_meaning.specs.Results.{Gives, bind}
 use Rattle.tenant_trails.specs.Runs.{Run as Trail, Asks, Ends}
 use Rattle.txn_heap.specs.Statics.{with_static}
@@ -101,9 +104,24 @@ class_tree c = record {
   constructors = map constructor_tree c.constructors;
 }
 
+-- Thing__c with a number, and RowShare
+unfoldable pub sample_objects : List Object
+sample_objects =
+    record {
+      name = codes "Thing__c";
+      prefix = codes "a01";
+      default = Edit;
+      heads = [];
+      rules = [];
+      fields =
+          record { name = codes "Id"; kind = Kind.Id; required = false } ∷ record { name = codes "OwnerId"; kind = Kind.Id; required = false }
+          ∷ record { name = codes "Amount__c"; kind = Kind.Number; required = false } ∷ [];
+    }
+    ∷ record { name = codes "RowShare"; prefix = codes "00r"; default = Edit; heads = []; rules = []; fields = [] } ∷ []
+
 abbrev pub setting : List ClassOf → Setting
 setting classes = record {
-  schema = record { roles = []; users = record { name = codes "ann"; role = None } ∷ []; objects = [] };
+  schema = record { roles = []; users = record { name = codes "ann"; role = None } ∷ []; objects = sample_objects };
   program = record { classes = map class_tree classes; triggers = []; blocks = [] };
   ticket = record { session = 0; index = 0; user = 0; now = pos 0 };
 }

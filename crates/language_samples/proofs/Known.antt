@@ -20,11 +20,12 @@ use Rattle.typed_program.specs.declared.expr.TypedExpr.{TypedExpr}
 use Rattle.typed_program.specs.declared.expr.TypedItem.{TypedItem}
 use Rattle.typed_program.specs.declared.expr.TypedNew.{TypedNew}
 use Rattle.typed_program.specs.declared.expr.TypedOperand.{TypedOperand}
+use Rattle.typed_program.specs.declared.expr.TypedPair.{TypedPair}
 use Rattle.typed_program.specs.declared.expr.TypedPart.{TypedPart}
 use Rattle.typed_program.specs.declared.expr.TypedPlace.{TypedPlace}
 use Rattle.typed_program.specs.declared.expr.TypedBind.TheOpen.{TypedExpr-F, TypedNew-F, TypedPart-F, TypedPlace-F}
-use Rattle.typed_program.specs.declared.expr.TypedBind.TheViews.{roll-TypedExpr, roll-TypedNew, roll-TypedPart, roll-TypedPlace, roll-TypedItem, roll-TypedOperand}
-use Rattle.typed_program.specs.declared.expr.TypedBind.TheFolds.{fold-TypedExpr, fold-TypedNew, fold-TypedPart, fold-TypedPlace, fold-TypedItem, fold-TypedOperand, fold-roll-TypedExpr, fold-roll-TypedNew, fold-roll-TypedPart, fold-roll-TypedPlace, fold-roll-TypedItem, fold-roll-TypedOperand}
+use Rattle.typed_program.specs.declared.expr.TypedBind.TheViews.{roll-TypedExpr, roll-TypedNew, roll-TypedPart, roll-TypedPlace, roll-TypedItem, roll-TypedOperand, roll-TypedPair}
+use Rattle.typed_program.specs.declared.expr.TypedBind.TheFolds.{fold-TypedExpr, fold-TypedNew, fold-TypedPart, fold-TypedPlace, fold-TypedItem, fold-TypedOperand, fold-TypedPair, fold-roll-TypedExpr, fold-roll-TypedNew, fold-roll-TypedPart, fold-roll-TypedPlace, fold-roll-TypedItem, fold-roll-TypedOperand, fold-roll-TypedPair}
 use Rattle.std.specs.Str.{is_utf8}
 use Rattle.apex_num.specs.declared.cell.Cell.TheVariants as C
 use Rattle.txn_heap.specs.declared.thing.Value.TheVariants.{Plain}
@@ -152,6 +153,25 @@ pub operand_each : (s : Setting) (a : Again) (n : Names) (ks : List OperandOf) �
 operand_each s a n [] = refl
 operand_each s a n (k ∷ ks) = λ i. k.is s a n i ∷ operand_each s a n ks i
 
+abbrev pub pair_run : Setting → Again → Names → TypedPair → ℕ × Run
+pair_run s a n = fold-TypedPair Run Run Run Behind Where Entry Behind (ℕ × Run) (E.bind_step s a n) (E.expr_step s a n) (E.new_step s a) (E.part_step s a) (E.place_step s a) (E.item_step s a n) (E.operand_step s a n) (E.pair_step s a n)
+
+-- a tree, and what it does
+pub record PairOf : Type 0 where
+  pub tree : TypedPair
+  pub does : Setting → Again → Names → ℕ × Run
+  pub is : (s : Setting) (a : Again) (n : Names) → pair_run s a n tree ≡ does s a n
+
+abbrev pub pair_trees : List PairOf → List TypedPair
+pair_trees ks = map (λ (k : PairOf). k.tree) ks
+
+abbrev pub pair_all : Setting → Again → Names → List PairOf → List (ℕ × Run)
+pair_all s a n ks = map (λ (k : PairOf). k.does s a n) ks
+
+pub pair_each : (s : Setting) (a : Again) (n : Names) (ks : List PairOf) → map (pair_run s a n) (pair_trees ks) ≡ pair_all s a n ks
+pair_each s a n [] = refl
+pair_each s a n (k ∷ ks) = λ i. k.is s a n i ∷ pair_each s a n ks i
+
 -- ---- operands, variables and parts
 
 abbrev pub operand : Conversion → TypedOp → Conversion → ExprOf → OperandOf
@@ -182,6 +202,13 @@ at_field e c m = record {
   is = λ s a n. fold-roll-TypedPlace Run Run Run Behind Where Entry Behind (ℕ × Run) (E.bind_step s a n) (E.expr_step s a n) (E.new_step s a) (E.part_step s a) (E.place_step s a) (E.item_step s a n) (E.operand_step s a n) (E.pair_step s a n) (TypedPlace-F.«TypedPlace::Field» e.tree c m) ∙ (λ i. E.place_step s a (TypedPlace-F.«TypedPlace::Field» (e.is s a n i) c m));
 }
 
+abbrev pub at_cell : ExprOf → ℕ → ℕ → PlaceOf
+at_cell e object m = record {
+  tree = roll-TypedPlace (TypedPlace-F.«TypedPlace::Cell» e.tree object m);
+  does = λ s a n. E.place_step s a (TypedPlace-F.«TypedPlace::Cell» (e.does s a n) object m);
+  is = λ s a n. fold-roll-TypedPlace Run Run Run Behind Where Entry Behind (ℕ × Run) (E.bind_step s a n) (E.expr_step s a n) (E.new_step s a) (E.part_step s a) (E.place_step s a) (E.item_step s a n) (E.operand_step s a n) (E.pair_step s a n) (TypedPlace-F.«TypedPlace::Cell» e.tree object m) ∙ (λ i. E.place_step s a (TypedPlace-F.«TypedPlace::Cell» (e.is s a n i) object m));
+}
+
 abbrev pub at_item : ExprOf → ExprOf → PlaceOf
 at_item e at = record {
   tree = roll-TypedPlace (TypedPlace-F.«TypedPlace::Index» e.tree at.tree);
@@ -194,6 +221,14 @@ field_part c m = record {
   tree = roll-TypedPart (TypedPart-F.«TypedPart::Field» c m);
   does = λ s a n. E.part_step s a (TypedPart-F.«TypedPart::Field» c m);
   is = λ s a n. fold-roll-TypedPart Run Run Run Behind Where Entry Behind (ℕ × Run) (E.bind_step s a n) (E.expr_step s a n) (E.new_step s a) (E.part_step s a) (E.place_step s a) (E.item_step s a n) (E.operand_step s a n) (E.pair_step s a n) (TypedPart-F.«TypedPart::Field» c m) ∙ (λ i. E.part_step s a (TypedPart-F.«TypedPart::Field» c m));
+}
+
+-- a cell, with a mark where a null in front is one
+abbrev pub cell_part : ℕ → ℕ → Bool → PartOf
+cell_part object m goes_on = record {
+  tree = roll-TypedPart (TypedPart-F.«TypedPart::Cell» object m goes_on);
+  does = λ s a n. E.part_step s a (TypedPart-F.«TypedPart::Cell» object m goes_on);
+  is = λ s a n. fold-roll-TypedPart Run Run Run Behind Where Entry Behind (ℕ × Run) (E.bind_step s a n) (E.expr_step s a n) (E.new_step s a) (E.part_step s a) (E.place_step s a) (E.item_step s a n) (E.operand_step s a n) (E.pair_step s a n) (TypedPart-F.«TypedPart::Cell» object m goes_on) ∙ (λ i. E.part_step s a (TypedPart-F.«TypedPart::Cell» object m goes_on));
 }
 
 abbrev pub item_part : ExprOf → PartOf
@@ -224,6 +259,13 @@ entry key value = record {
   is = λ s a n. fold-roll-TypedItem Run Run Run Behind Where Entry Behind (ℕ × Run) (E.bind_step s a n) (E.expr_step s a n) (E.new_step s a) (E.part_step s a) (E.place_step s a) (E.item_step s a n) (E.operand_step s a n) (E.pair_step s a n) (record { key = key.tree; value = value.tree }) ∙ (λ i. E.item_step s a n (record { key = (key.is s a n i); value = (value.is s a n i) }));
 }
 
+abbrev pub pair : ℕ → ExprOf → PairOf
+pair m e = record {
+  tree = roll-TypedPair (record { field = m; value = e.tree });
+  does = λ s a n. E.pair_step s a n (record { field = m; value = (e.does s a n) });
+  is = λ s a n. fold-roll-TypedPair Run Run Run Behind Where Entry Behind (ℕ × Run) (E.bind_step s a n) (E.expr_step s a n) (E.new_step s a) (E.part_step s a) (E.place_step s a) (E.item_step s a n) (E.operand_step s a n) (E.pair_step s a n) (record { field = m; value = e.tree }) ∙ (λ i. E.pair_step s a n (record { field = m; value = (e.is s a n i) }));
+}
+
 -- ---- what `new` makes
 
 abbrev pub instance : ℕ → Constructor → List ExprOf → NewOf
@@ -238,6 +280,13 @@ exception c es = record {
   tree = roll-TypedNew (TypedNew-F.Exception c (expr_trees es));
   does = λ s a n. E.new_step s a (TypedNew-F.Exception c (expr_all s a n es));
   is = λ s a n. fold-roll-TypedNew Run Run Run Behind Where Entry Behind (ℕ × Run) (E.bind_step s a n) (E.expr_step s a n) (E.new_step s a) (E.part_step s a) (E.place_step s a) (E.item_step s a n) (E.operand_step s a n) (E.pair_step s a n) (TypedNew-F.Exception c (expr_trees es)) ∙ (λ i. E.new_step s a (TypedNew-F.Exception c (expr_each s a n es i)));
+}
+
+abbrev pub a_record : ℕ → List PairOf → NewOf
+a_record object ps = record {
+  tree = roll-TypedNew (TypedNew-F.Record object (pair_trees ps));
+  does = λ s a n. E.new_step s a (TypedNew-F.Record object (pair_all s a n ps));
+  is = λ s a n. fold-roll-TypedNew Run Run Run Behind Where Entry Behind (ℕ × Run) (E.bind_step s a n) (E.expr_step s a n) (E.new_step s a) (E.part_step s a) (E.place_step s a) (E.item_step s a n) (E.operand_step s a n) (E.pair_step s a n) (TypedNew-F.Record object (pair_trees ps)) ∙ (λ i. E.new_step s a (TypedNew-F.Record object (pair_each s a n ps i)));
 }
 
 abbrev pub collection : CollectionKind → List ExprOf → NewOf
@@ -436,6 +485,12 @@ list es = made (collection Kinds.List es)
 
 abbrev pub field : ExprOf → ℕ → ℕ → ExprOf
 field e c m = path e (field_part c m ∷ [])
+
+abbrev pub cell : ExprOf → ℕ → ℕ → ExprOf
+cell e object m = path e (cell_part object m false ∷ [])
+
+abbrev pub new_record : ℕ → List PairOf → ExprOf
+new_record object ps = made (a_record object ps)
 
 abbrev pub item : ExprOf → ExprOf → ExprOf
 item e f = path e (item_part f ∷ [])

@@ -3,3 +3,4 @@ pub mod Stmts
 pub mod Classes
 pub mod First
 pub mod Second
+pub mod Records

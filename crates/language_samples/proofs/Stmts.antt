@@ -8,13 +8,16 @@ use Rattle.static_types.specs.declared.kind.ValueType.TheOpen.{ValueType-F}
 use Rattle.static_types.specs.declared.kind.ValueType.TheViews.{roll-ValueType, out-roll-ValueType}
 use Rattle.typed_program.specs.declared.program.Program.{Program}
 use Rattle.typed_program.specs.declared.expr.Conversion.TheVariants.{Same}
+use Rattle.apex_syntax.specs.declared.stmt.DmlOp.TheVariants.{Insert}
+use Rattle.typed_program.specs.declared.stmt.Saved.TheVariants.{One}
 use Rattle.typed_program.specs.declared.stmt.TypedCatch.{TypedCatch}
 use Rattle.typed_program.specs.declared.stmt.TypedStart.TheVariants as Start
 use Rattle.typed_program.specs.declared.stmt.TypedStmt.{TypedStmt}
 use Rattle.typed_program.specs.declared.stmt.TypedStmt.TheOpen.{TypedStmt-F}
 use Rattle.typed_program.specs.declared.stmt.TypedStmt.TheViews.{roll-TypedStmt, roll-TypedCatch}
 use Rattle.typed_program.specs.declared.stmt.TypedStmt.TheFolds.{fold-TypedCatch, fold-roll-TypedStmt, fold-roll-TypedCatch, map-TypedStmt}
-use Rattle.apex_meaning.specs.Runs.{Setting}
+use Rattle.apex_meaning.specs.Runs.{Setting, site_of}
+use Rattle.apex_meaning.specs.Statements.{insert_these, records_of}
 use Rattle.apex_meaning.specs.States.{Res, charge, set_local}
 use Rattle.apex_meaning.specs.Values.{null}
 use Rattle.language_meaning.specs.Exceptions.{Clause, Kind, catching, caught_by, clause_for, if_takes, kind_of, takes_form, throw as thrown}
@@ -116,6 +119,14 @@ has x e = record {
   tree = roll-TypedStmt (TypedStmt-F.Declare (record { slot = x; value = Some e.tree } ∷ []));
   does = λ s a n. behind_step (λ st. bind (e.does s a n st) (λ v s1. Gives tt (set_local x v s1)));
   is = λ s a n. rolls s a n (TypedStmt-F.Declare (record { slot = x; value = Some e.tree } ∷ [])) ∙ (λ i. behind_step (λ st. bind (e.is s a n i st) (λ v s1. Gives tt (set_local x v s1))));
+}
+
+-- one record is inserted
+abbrev pub insert : ℕ → ExprOf → StmtOf
+insert object e = record {
+  tree = roll-TypedStmt (TypedStmt-F.Dml Insert (One object) e.tree);
+  does = λ s a n. behind_step (λ st. bind (e.does s a n st) (λ v s1. insert_these (site_of s) (records_of (One object) v s1.world.heap) s1));
+  is = λ s a n. rolls s a n (TypedStmt-F.Dml Insert (One object) e.tree) ∙ (λ i. behind_step (λ st. bind (e.is s a n i st) (λ v s1. insert_these (site_of s) (records_of (One object) v s1.world.heap) s1)));
 }
 
 abbrev pub declare : ℕ → StmtOf

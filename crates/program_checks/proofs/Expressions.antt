@@ -166,7 +166,7 @@ module _ (program : Program) (b : Bool) where
 
   part_layer : (y : TypedPart-F SuchBind SuchExpr SuchNew SuchPart SuchPlace SuchItem SuchOperand SuchPair) → Closed b (part_code (part_in y))
   part_layer (TypedPart-F.«TypedPart::Field» c n) = part_is (TypedPart-F.«TypedPart::Field» c n) _ refl (closed_one b (I.Get (S.Field (field_place program c n))) (λ code pc. tt))
-  part_layer (TypedPart-F.«TypedPart::Cell» o n m) = part_is (TypedPart-F.«TypedPart::Cell» o n m) unbuilt refl (unbuilt_closed b)
+  part_layer (TypedPart-F.«TypedPart::Cell» o n m) = part_is (TypedPart-F.«TypedPart::Cell» o n m) _ refl (closed_one b (I.Get (S.Cell n m)) (λ code pc. tt))
   part_layer (TypedPart-F.Parent o n m) = part_is (TypedPart-F.Parent o n m) unbuilt refl (unbuilt_closed b)
   part_layer (TypedPart-F.Children o n m) = part_is (TypedPart-F.Children o n m) unbuilt refl (unbuilt_closed b)
   part_layer (TypedPart-F.«TypedPart::Index» e) = part_is (TypedPart-F.«TypedPart::Index» e.0) _ refl (closed_then b (expr_code program e.0) (I.Get S.Item) (λ code pc. tt) e.1)

@@ -10,7 +10,7 @@ use crate::put::put;
 use crate::stmts::emit_stmts;
 use apex_list::Items;
 use apex_num::NoMemory;
-use program_code::{Code, Instr};
+use program_code::{Code, Instr, Instrs};
 use std::alloc::Global;
 use type_names::TreeFault;
 use typed_program::{TypedExpr, TypedField, TypedMethod, TypedStmt};
@@ -98,7 +98,7 @@ pub fn fields_code(
         emit_field(&mut code, alloc, layout, class, place, &fields[place])?;
     }
     Ok(Code {
-        instrs: Items::of(code),
+        instrs: Instrs::of(alloc, code)?,
     })
 }
 
@@ -116,7 +116,7 @@ pub fn statics_code(
         emit_static(&mut code, alloc, layout, class, place, &fields[place])?;
     }
     Ok(Code {
-        instrs: Items::of(code),
+        instrs: Instrs::of(alloc, code)?,
     })
 }
 
@@ -126,7 +126,7 @@ fn block_code(alloc: Global, layout: &Layout, stmts: &[TypedStmt]) -> Result<Cod
     let mut code = Vec::new(alloc);
     emit_stmts(&mut code, alloc, layout, stmts)?;
     Ok(Code {
-        instrs: Items::of(code),
+        instrs: Instrs::of(alloc, code)?,
     })
 }
 
@@ -136,7 +136,7 @@ fn method_code(alloc: Global, layout: &Layout, method: &TypedMethod) -> Result<C
     match &method.body {
         Some(stmts) => block_code(alloc, layout, stmts.as_slice()),
         None => Ok(Code {
-            instrs: Items::new(alloc),
+            instrs: Instrs::of(alloc, Vec::new(alloc))?,
         }),
     }
 }

@@ -243,9 +243,10 @@ fn emit_part(
             emit_exprs(code, alloc, layout, args.as_slice())?;
             put(code, Instr::Builtin(*which, sum(1, args.len())?))
         }
-        TypedPart::Cell(_, _, _) | TypedPart::Parent(_, _, _) | TypedPart::Children(_, _, _) => {
-            put(code, Instr::Unbuilt)
+        TypedPart::Cell(_, field, goes_on) => {
+            put(code, Instr::Get(Slot::Cell(*field, *goes_on)))
         }
+        TypedPart::Parent(_, _, _) | TypedPart::Children(_, _, _) => put(code, Instr::Unbuilt),
     }
 }
 

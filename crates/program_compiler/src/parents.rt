@@ -12,7 +12,7 @@ use crate::starts::{only_fields, own_starts, starts_and};
 use crate::stmts::emit_stmts;
 use apex_list::Items;
 use apex_num::NoMemory;
-use program_code::{Code, Instr};
+use program_code::{Code, Instr, Instrs};
 use std::alloc::Global;
 use typed_program::{Constructor, ImpliedCall, ParentCall, TypedConstructor, TypedExpr};
 
@@ -197,7 +197,7 @@ fn constructor_code(
     emit_parent(&mut code, alloc, layout, class, &constructor.parent)?;
     emit_stmts(&mut code, alloc, layout, constructor.stmts.as_slice())?;
     Ok(Code {
-        instrs: Items::of(code),
+        instrs: Instrs::of(alloc, code)?,
     })
 }
 

@@ -53,7 +53,7 @@ fn slot_of(layout: &Layout, place: &TypedPlace) -> Result<Slot, NoMemory>
         TypedPlace::Field(_, class, field) => {
             Ok(Slot::Field(layout.field_place(*class, *field)?))
         }
-        TypedPlace::Cell(_, _, _) => Ok(Slot::Cell),
+        TypedPlace::Cell(_, _, field) => Ok(Slot::Cell(*field, false)),
         TypedPlace::Index(_, _) => Ok(Slot::Item),
     }
 }

@@ -1,7 +1,8 @@
 -- What variables come to that are read and assigned to.
-use Rattle.std.proofs.Common.{◌≡◌, ℕ, ◌+◌, cond, List, [], ◌∷◌, ◌++◌, length, drop, slice_get, Option, Some, refl, ap, ◌∙◌, subst}
+use Rattle.std.proofs.Common.{◌≡◌, ℕ, ◌+◌, Bool, true, false, cond, List, [], ◌∷◌, ◌++◌, length, drop, slice_get, slice_index_or, Option, Some, None, refl, ap, ◌∙◌, subst}
 use Rattle.apex_meaning.specs.Runs.{Setting, site_of}
-use Rattle.apex_meaning.specs.States.{State, Res}
+use Rattle.apex_meaning.specs.States.{State, Res, charge, with_heap}
+use Rattle.apex_num.specs.declared.kind.LimitKind.TheVariants.{Alloc}
 use Rattle.builtin_table.specs.declared.method.Builtin.TheVariants as Which
 use Rattle.builtin_table.specs.declared.method.ListMethod.TheVariants as L
 use Rattle.language_meaning.specs.Classes.{field_place}
@@ -9,7 +10,7 @@ use Rattle.language_meaning.specs.Collections.{on_collection}
 use Rattle.language_meaning.specs.Expressions.{Where}
 use Rattle.language_meaning.specs.Meanings.{Again, Run, calc}
 use Rattle.language_meaning.specs.Operations.{apply}
-use Rattle.language_meaning.specs.Places.{Target, LocalAt, StaticAt, FieldAt, CellAt, ItemAt, field_in, field_of_thing, set_field, set_in_thing, load, store, ready, got, assigned, assigned_with, changed}
+use Rattle.language_meaning.specs.Places.{Target, LocalAt, StaticAt, FieldAt, CellAt, ItemAt, cell_at, cell_of_thing, field_in, field_of_thing, null_in_front, set_cell, set_cell_in_thing, set_field, set_in_thing, setting_units, with_cell, load, store, ready, got, assigned, assigned_with, changed}
 use Rattle.save_meaning.proofs.Holding.{bind_bind, bound, weaken}
 use Rattle.save_meaning.specs.Results.{Gives, bind, Holds}
 use Rattle.save_meaning.specs.Sites.{Site}
@@ -60,7 +61,7 @@ abbrev pub slot_of : Program → Target → Slot
 slot_of program (LocalAt x) = S.Local x
 slot_of program (StaticAt c n) = S.Static c n
 slot_of program (FieldAt v c n) = S.Field (field_place program c n)
-slot_of program (CellAt v object field) = S.Cell
+slot_of program (CellAt v object field) = S.Cell field false
 slot_of program (ItemAt v w) = S.Item
 
 as_many : (program : Program) (t : Target) → length (parts_in t) ≡ M.parts_of (slot_of program t)
@@ -106,20 +107,48 @@ module _ (site : Site) (image : Image) (r : Trail.Run) (program : Program) where
       Sim.first site image r a (I.SetOwn place) k (v ∷ temps) st (λ pc w b d. set_by a place st.here.this v pc (v ∷ temps) st w _ (config a pc (v ∷ temps) st w) b
       (weaken _ _ (Sim.Stopped site image r a) (set_field place st.here.this v st) (λ u s h x y. h.by (pc + 1) x y d) post))
 
+  -- ---- cells of records
+
+  null_by : (a : Around) (goes_on : Bool) (pc : ℕ) (old : List Value) (st : State) (w : TxnState) (go : Value → Config → Next) (c : Config) → Stands a.below st w → Onward site image r a pc old go c (null_in_front goes_on st) → Sim.Comes site image r (M.null_loaded goes_on (config a pc old st w) go) c st.world.txn.tape
+  null_by a true pc old st w go c b post = post w b
+  null_by a false pc old st w go c b post = post.by pc [] w b
+
+  cell_by : (a : Around) (field : ℕ) (goes_on : Bool) (v : Value) (pc : ℕ) (old : List Value) (st : State) (w : TxnState) (go : Value → Config → Next) (c : Config) → Stands a.below st w → Onward site image r a pc old go c (cell_at field goes_on v st) → Sim.Comes site image r (M.cell_loaded field goes_on v (config a pc old st w) go) c st.world.txn.tape
+  cell_by a field goes_on (Plain cell) pc old st w go c b post = null_by a goes_on pc old st w go c b post
+  cell_by a field goes_on (Object ref) pc old st w go c b post = by (slice_get st.world.heap ref.place) post where
+    by : (t : Option Thing) → Onward site image r a pc old go c (cell_of_thing field t st) → Sim.Comes site image r (M.cell_of_thing field t (config a pc old st w) go) c st.world.txn.tape
+    by (Some (T.Record known)) h = h w b
+    by t h = h.by pc [] w b
+
+  set_cell_by : (a : Around) (field : ℕ) (v x : Value) (pc : ℕ) (old : List Value) (st : State) (w : TxnState) (go : Config → Next) (c : Config) → Stands a.below st w → Onward site image r a pc old (λ u. go) c (set_cell field v x st) → Sim.Comes site image r (M.cell_stored field v x (config a pc old st w) go) c st.world.txn.tape
+  set_cell_by a field (Plain cell) x pc old st w go c b post = post.by pc [] w b
+  set_cell_by a field (Object ref) x pc old st w go c b post = by (slice_get st.world.heap ref.place) post where
+    by : (t : Option Thing) → Onward site image r a pc old (λ (u : Unit {0}). go) c (set_cell_in_thing field x ref.place t st) → Sim.Comes site image r (M.set_cell_in_thing field x ref.place t (config a pc old st w) go) c st.world.txn.tape
+    by (Some (T.Record known)) h =
+        let units = setting_units (slice_index_or known.cells field None) in
+        Sim.charge_at site image r a Alloc units st pc old w _ c b
+        (bound (λ u s. (z : TxnState) → Stands a.below s z → Sim.Comes site image r (go (config a pc old s z)) c s.world.txn.tape) (Sim.Stopped site image r a) (charge Alloc units st) (λ u s. Gives tt (with_heap (with_cell field x ref.place s.world.heap) s)) h)
+    by t h = h.by pc [] w b
+
+  -- a cell that is read
+  pub cell_part_at : (field : ℕ) (goes_on : Bool) → Sim.Takes site image r (cell_at field goes_on) (I.Get (S.Cell field goes_on) ∷ [])
+  cell_part_at field goes_on a v k temps st post =
+      Sim.first site image r a (I.Get (S.Cell field goes_on)) k (v ∷ temps) st (λ pc w b d. cell_by a field goes_on v pc (v ∷ temps) st w _ (config a pc (v ∷ temps) st w) b (onward site image r a pc k temps (v ∷ temps) (config a pc (v ∷ temps) st w) (cell_at field goes_on v st) d post))
+
   -- ---- all variables
 
   loaded_by : (a : Around) (t : Target) (pc : ℕ) (old : List Value) (st : State) (w : TxnState) (go : Value → Config → Next) (c : Config) → Stands a.below st w → Onward site image r a pc old go c (load program t st) → Sim.Comes site image r (M.loaded (slot_of program t) (parts_in t) (config a pc old st w) go) c st.world.txn.tape
   loaded_by a (LocalAt x) pc old st w go c b post = post w b
   loaded_by a (StaticAt k n) pc old st w go c b post = post w b
   loaded_by a (FieldAt v k n) pc old st w go c b post = field_by a (field_place program k n) v pc old st w go c b post
-  loaded_by a (CellAt v object field) pc old st w go c b post = (0, ap Some post)
+  loaded_by a (CellAt v object field) pc old st w go c b post = cell_by a field false v pc old st w go c b post
   loaded_by a (ItemAt v x) pc old st w go c b post = collection_at site image r a (Which.List L.Get) v (x ∷ []) pc old st w go c b post
 
   stored_by : (a : Around) (t : Target) (x : Value) (pc : ℕ) (old : List Value) (st : State) (w : TxnState) (go : Config → Next) (c : Config) → Stands a.below st w → Onward site image r a pc old (λ u. go) c (store program t x st) → Sim.Comes site image r (M.stored (slot_of program t) (parts_in t) x (config a pc old st w) go) c st.world.txn.tape
   stored_by a (LocalAt n) x pc old st w go c b post = post w b
   stored_by a (StaticAt k n) x pc old st w go c b post = post w b
   stored_by a (FieldAt v k n) x pc old st w go c b post = set_by a (field_place program k n) v x pc old st w go c b post
-  stored_by a (CellAt v object field) x pc old st w go c b post = (0, ap Some post)
+  stored_by a (CellAt v object field) x pc old st w go c b post = set_cell_by a field v x pc old st w go c b post
   stored_by a (ItemAt v y) x pc old st w go c b post =
       collection_at site image r a (Which.List L.Set) v (y ∷ x ∷ []) pc old st w (λ u. go) c b
       (bound (λ u s. (z : TxnState) → Stands a.below s z → Sim.Comes site image r (go (config a pc old s z)) c s.world.txn.tape) (Sim.Stopped site image r a) (on_collection (Which.List L.Set) v (y ∷ x ∷ []) st) (λ u s. Gives tt s) post)

@@ -472,7 +472,9 @@ module _ (setting : Setting) (image : Image) (r : Trail.Run) (is : IsImage setti
   part_layer (TypedPart-F.Builtin which es) =
       takes_part (TypedPart-F.Builtin which (exprs es)) _ _ (λ v st. refl) refl
       (taking_on es (λ args v. called_builtin setting.program setting.ticket which (v ∷ args)) (I.Builtin which (suc (length (map code_expr (exprs es)))) ∷ []) (λ args v a k temps s n h. OfThings.builtin_at setting image r is a which (suc (length (map code_expr (exprs es)))) (v ∷ args) k temps s (ap suc n) h))
-  part_layer (TypedPart-F.«TypedPart::Cell» o f mark) = lacks_part (TypedPart-F.«TypedPart::Cell» o f mark) (λ v st. refl) refl
+  part_layer (TypedPart-F.«TypedPart::Cell» o f goes_on) =
+      takes_part (TypedPart-F.«TypedPart::Cell» o f goes_on) _ _ (λ v st. refl) refl
+      (OfPlaces.cell_part_at (site_of setting) image r setting.program f goes_on)
   part_layer (TypedPart-F.Parent o f mark) = lacks_part (TypedPart-F.Parent o f mark) (λ v st. refl) refl
   part_layer (TypedPart-F.Children o f mark) = lacks_part (TypedPart-F.Children o f mark) (λ v st. refl) refl
 

@@ -2,6 +2,7 @@ mod Lists
 mod Charged
 mod Same
 mod Fields
+mod CellSteps
 mod Made
 mod Sizes
 mod Told

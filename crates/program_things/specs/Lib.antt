@@ -5,3 +5,4 @@ pub mod Kinds
 pub mod Saves
 pub mod Values
 pub mod Records
+pub mod Cells

@@ -33,7 +33,7 @@ use txn_heap::Value;
 // ---- methods of primitives
 
 // A primitive; a thing is none.
-fn cell_of(value: Value) -> Cell
+pub(crate) fn cell_of(value: Value) -> Cell
     ensures { result ≡ cell_in value }
 {
     match value {

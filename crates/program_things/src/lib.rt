@@ -4,6 +4,7 @@
 
 mod act;
 mod builtins;
+mod cells;
 mod charges;
 mod collections;
 mod ends;

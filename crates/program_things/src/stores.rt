@@ -9,8 +9,8 @@ ghost use Rattle.program_code.specs.Machine as spec;
 ghost use Rattle.program_code.specs.Things as things;
 ghost use Rattle.program_things.specs.Steps.{IsStep};
 
+use crate::cells::{change_cell, set_cell};
 use crate::collections::collect;
-use crate::ends::refused;
 use crate::moved::Moved;
 use crate::operands::{next, next_with, raise, take};
 use crate::variables::{field_value, instance_named, local_at, put_at, static_value};
@@ -111,7 +111,7 @@ pub fn act_set(alloc: Global, slot: Slot, c: &mut Config) -> Result<Moved, NoMem
         Slot::Static(class, place) => set_static(class, place, c),
         Slot::Field(place) => set_field(alloc, place, c),
         Slot::Item => set_item(alloc, c),
-        Slot::Cell => refused(alloc, c),
+        Slot::Cell(field, goes_on) => set_cell(alloc, field, goes_on, c),
     }
 }
 
@@ -152,7 +152,7 @@ pub fn act_set_own(alloc: Global, place: usize, c: &mut Config) -> Result<Moved,
 
 // ---- `++` and `--`
 
-fn chosen(before: bool, new: Value, old: Value) -> Value
+pub(crate) fn chosen(before: bool, new: Value, old: Value) -> Value
     ensures { result ≡ cond before new old }
 {
     if before { new } else { old }
@@ -306,6 +306,6 @@ pub fn act_change(
         Slot::Static(class, place) => change_static(alloc, kind, number, class, place, c),
         Slot::Field(place) => change_field(alloc, kind, number, place, c),
         Slot::Item => change_item(alloc, kind, number, c),
-        Slot::Cell => refused(alloc, c),
+        Slot::Cell(field, goes_on) => change_cell(alloc, kind, number, field, goes_on, c),
     }
 }

@@ -13,8 +13,8 @@ ghost use Rattle.program_code.specs.Things as things;
 ghost use Rattle.program_things.specs.Steps.{IsStep};
 ghost use Rattle.program_things.specs.Variables.{field_at, field_of, instance_at, is_instance};
 
+use crate::cells::{fetch_cell, get_cell};
 use crate::collections::collect;
-use crate::ends::refused;
 use crate::moved::Moved;
 use crate::operands::{next_with, raise, take};
 use apex_list::Items;
@@ -175,7 +175,7 @@ pub fn act_get(alloc: Global, slot: Slot, c: &mut Config) -> Result<Moved, NoMem
         Slot::Static(class, place) => get_static(class, place, c),
         Slot::Field(place) => get_field(alloc, place, c),
         Slot::Item => get_item(alloc, c),
-        Slot::Cell => refused(alloc, c),
+        Slot::Cell(field, goes_on) => get_cell(alloc, field, goes_on, c),
     }
 }
 
@@ -233,6 +233,6 @@ pub fn act_fetch(alloc: Global, slot: Slot, c: &mut Config) -> Result<Moved, NoM
         Slot::Static(class, place) => get_static(class, place, c),
         Slot::Field(place) => fetch_field(alloc, place, c),
         Slot::Item => fetch_item(alloc, c),
-        Slot::Cell => refused(alloc, c),
+        Slot::Cell(field, goes_on) => fetch_cell(alloc, field, goes_on, c),
     }
 }
