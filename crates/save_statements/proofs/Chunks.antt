@@ -2,6 +2,7 @@
 use Rattle.std.proofs.Common.{◌≡◌, refl, ap, sym, subst, ◌∙◌, ℕ, ◌+◌, Bool, true, false, List, [], ◌∷◌, ◌++◌, length, Some, append_assoc, append-nil}
 use Rattle.std.specs.Prelude.{not, slice_get}
 use Rattle.std.proofs.lemmas.List.{length-map}
+use Rattle.store_inquiries.specs.Inquiries.{inquire}
 use Rattle.save_statements.specs.declared.statement.Placed.{Placed}
 use Rattle.apex_num.specs.declared.kind.LimitKind.TheVariants.{Steps, Alloc}
 use Rattle.apex_schema.specs.declared.schema.Object.{Object}
@@ -29,7 +30,7 @@ use Rattle.save_statements.specs.declared.run.Stage.{Stage}
 use Rattle.save_statements.specs.declared.run.Stage.TheVariants as St
 use Rattle.save_statements.specs.declared.run.SaveRun.{SaveRun}
 use Rattle.save_statements.specs.Records.{going}
-use Rattle.save_statements.specs.Inquiries.{inquire, replayed}
+use Rattle.save_statements.specs.Inquiries.{replayed}
 use Rattle.save_statements.specs.Loading.{load}
 use Rattle.save_statements.specs.Checks.{refer, validate}
 use Rattle.save_statements.specs.Firings.{entries, context, fired, back}

@@ -17,13 +17,14 @@ use Rattle.save_meaning.specs.Results.{Finish, Stop, Leaves, Closes, Res, Gives,
 use Rattle.save_meaning.specs.Transactions.{Txn, Keeps, IsKept, charge_if, charge, answered}
 use Rattle.save_meaning.specs.MoveLaws.{Alike}
 use Rattle.save_meaning.specs.declared.run.TxnState.{TxnState}
+use Rattle.store_inquiries.specs.Inquiries.{Inquiry, Found, Asked, inquire}
 use Rattle.save_statements.specs.declared.pending.Record.{Record}
 use Rattle.save_statements.specs.declared.statement.RecordOutcome.{RecordOutcome}
 use Rattle.save_statements.specs.declared.run.Replayed.{Replayed}
 use Rattle.save_statements.specs.declared.run.Replayed.TheVariants.{Came, Wants}
 use Rattle.save_statements.specs.declared.run.Stage.{Stage}
 use Rattle.save_statements.specs.declared.run.SaveRun.{SaveRun}
-use Rattle.save_statements.specs.Inquiries.{Inquiry, Found, Asked, inquire, replayed}
+use Rattle.save_statements.specs.Inquiries.{replayed}
 use Rattle.save_statements.specs.Phases.{Code}
 use Rattle.save_statements.specs.Moves.{Move, Goes, Asks, Fires, Ends, Throws, Halts, charged_if, charged, at, replays, move, given, came_back}
 

@@ -29,6 +29,7 @@ use Rattle.save_meaning.specs.Sites.{Site}
 use Rattle.save_meaning.specs.Results.{Needs, Stop, Leaves, Closes, Res, Gives, Stops, bind}
 use Rattle.save_meaning.specs.Transactions.{Txn}
 use Rattle.save_meaning.specs.Laws.{alone}
+use Rattle.store_inquiries.specs.Questions.{within}
 use Rattle.save_statements.specs.declared.pending.Act.{Act}
 use Rattle.save_statements.specs.declared.pending.Act.TheVariants.{Inserting}
 use Rattle.save_statements.specs.declared.pending.Manner.TheVariants.{ByCode}
@@ -37,7 +38,6 @@ use Rattle.save_statements.specs.declared.firing.Left.{Left}
 use Rattle.save_statements.specs.declared.firing.Fired.TheVariants.{Ran}
 use Rattle.save_statements.specs.declared.statement.RecordOutcome.{RecordOutcome}
 use Rattle.save_statements.specs.declared.statement.RecordOutcome.TheVariants.{Done, Failed}
-use Rattle.save_statements.specs.Records.{within}
 use Rattle.save_statements.specs.Phases.{Code}
 use Rattle.save_statements.specs.Statements.{save}
 

@@ -18,13 +18,15 @@ use Rattle.save_meaning.specs.Sites.{Site}
 use Rattle.save_meaning.specs.declared.draft.Reference.{Reference}
 use Rattle.save_meaning.specs.Drafts.{or_later, when, references, id_in, with_ids, untouched, dangles, is_user, name_of, lacking, too_long, is_bad_level}
 use Rattle.save_meaning.specs.Inserts.{ids_of, is_row_share}
+use Rattle.store_inquiries.specs.Inquiries.{Inquiry, Found, and_then}
+use Rattle.store_inquiries.specs.Questions.{rows_by, grab}
 use Rattle.save_statements.specs.declared.pending.Act.{Act}
 use Rattle.save_statements.specs.declared.pending.Act.TheVariants.{Deleting}
 use Rattle.save_statements.specs.declared.pending.Pending.{Pending}
 use Rattle.save_statements.specs.declared.pending.Record.{Record}
 use Rattle.save_statements.specs.declared.pending.Naming.{Naming}
 use Rattle.save_statements.specs.Records.{judged, changed_to, going, rows_of, is_new, changes, masters, lookups, names_one, named_by}
-use Rattle.save_statements.specs.Inquiries.{Inquiry, Found, and_then, rows_by, naming, grab}
+use Rattle.save_statements.specs.Inquiries.{naming}
 
 -- ---- references
 

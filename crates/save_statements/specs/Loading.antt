@@ -19,6 +19,8 @@ use Rattle.row_meaning.specs.Stores.{find}
 use Rattle.save_meaning.specs.Sites.{Site}
 use Rattle.save_meaning.specs.Drafts.{when, new_cells, no_id, with_ids, untouched}
 use Rattle.save_meaning.specs.Inserts.{rows_of_answer, ids_of}
+use Rattle.store_inquiries.specs.Inquiries.{Inquiry, Found, Asked, and_then}
+use Rattle.store_inquiries.specs.Questions.{row_share, shares_on, rows_by, grab}
 use Rattle.save_statements.specs.declared.pending.Act.{Act}
 use Rattle.save_statements.specs.declared.pending.Act.TheVariants.{Inserting, Updating}
 use Rattle.save_statements.specs.declared.pending.Manner.{Manner}
@@ -26,8 +28,7 @@ use Rattle.save_statements.specs.declared.pending.Manner.TheVariants.{ByCode, By
 use Rattle.save_statements.specs.declared.pending.Pending.{Pending}
 use Rattle.save_statements.specs.declared.pending.Record.{Record}
 use Rattle.save_statements.specs.declared.pending.Record.TheVariants.{Going, Wrong}
-use Rattle.save_statements.specs.Records.{pending, judged, going, rows_of, row_share, shares_on}
-use Rattle.save_statements.specs.Inquiries.{Inquiry, Found, Asked, and_then, rows_by, grab}
+use Rattle.save_statements.specs.Records.{pending, judged, going, rows_of}
 
 -- ---- new rows
 

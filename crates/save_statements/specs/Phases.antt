@@ -12,6 +12,7 @@ use Rattle.save_meaning.specs.Sites.{Site}
 use Rattle.save_meaning.specs.Results.{Res, Gives, bind}
 use Rattle.save_meaning.specs.Transactions.{Keeps, charge, set_overlay}
 use Rattle.save_meaning.specs.Drafts.{written}
+use Rattle.store_inquiries.specs.Inquiries.{Inquiry, inquire}
 use Rattle.save_statements.specs.declared.pending.Act.{Act}
 use Rattle.save_statements.specs.declared.pending.Act.TheVariants.{Inserting, Updating, Deleting}
 use Rattle.save_statements.specs.declared.pending.Manner.{Manner}
@@ -22,7 +23,6 @@ use Rattle.save_statements.specs.declared.firing.Trigger.{Trigger}
 use Rattle.save_statements.specs.declared.firing.Fired.{Fired}
 use Rattle.save_statements.specs.declared.firing.Entry.{Entry}
 use Rattle.save_statements.specs.Records.{going}
-use Rattle.save_statements.specs.Inquiries.{Inquiry, inquire}
 use Rattle.save_statements.specs.Loading.{load}
 use Rattle.save_statements.specs.Checks.{refer, validate}
 use Rattle.save_statements.specs.Firings.{entries, context, fired, back}

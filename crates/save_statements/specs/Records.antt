@@ -1,5 +1,5 @@
 -- The records of every save on their way: each knows the row that it was (docs/platform.md, "Saves").
-use Rattle.std.specs.Prelude.{ℕ, suc, ◌-◌, ◌&&◌, not, eqb, Bool, true, false, List, [], ◌∷◌, ◌++◌, length, map, Option, None, Some}
+use Rattle.std.specs.Prelude.{ℕ, suc, ◌&&◌, not, eqb, Bool, true, false, List, [], ◌∷◌, ◌++◌, Option, None, Some}
 use Rattle.std.specs.List.{list_any}
 use Rattle.apex_num.specs.declared.cell.Cell.{Cell}
 use Rattle.apex_num.specs.declared.cell.Cell.TheVariants.{Id}
@@ -9,18 +9,12 @@ use Rattle.apex_schema.specs.declared.schema.FieldKind.TheVariants as Kind
 use Rattle.apex_schema.specs.declared.schema.Field.{Field}
 use Rattle.apex_schema.specs.declared.schema.Object.{Object}
 use Rattle.apex_schema.specs.declared.schema.Schema.{Schema}
-use Rattle.apex_rows.specs.declared.query.Cond.{Cond}
-use Rattle.apex_rows.specs.declared.query.Cond.TheVariants.{All, Within, Compare}
-use Rattle.apex_rows.specs.declared.query.CondOp.TheVariants.{Equal}
-use Rattle.apex_rows.specs.declared.query.Term.TheVariants.{Given}
-use Rattle.apex_rows.specs.declared.query.Terms.TheVariants.{Given as GivenAll}
 use Rattle.apex_rows.specs.declared.row.Row.{Row}
 use Rattle.apex_requests.specs.declared.request.Op.{Op}
 use Rattle.apex_requests.specs.declared.request.Op.TheVariants as Op'
 use Rattle.row_meaning.specs.Conds.{cell_of}
 use Rattle.row_meaning.specs.Rules.{equals}
 use Rattle.row_meaning.specs.Stores.{has_id}
-use Rattle.row_meaning.specs.Users.{user_id}
 use Rattle.save_statements.specs.declared.pending.Act.{Act}
 use Rattle.save_statements.specs.declared.pending.Act.TheVariants.{Inserting, Updating, Deleting}
 use Rattle.save_statements.specs.declared.pending.Pending.{Pending}
@@ -112,17 +106,3 @@ names_one field ids row = is_among ids (cell_of row field)
 -- one of these fields of a row names one of these
 abbrev pub named_by : List Naming → List (List ℕ) → Row → Bool
 named_by namings ids row = list_any (λ (n : Naming). eqb n.object row.object && names_one n.field ids row) namings
-
--- ---- conditions of questions
-
--- the field is one of these Ids
-abbrev pub within : ℕ → List (List ℕ) → Cond
-within field ids = Within (record { parents = []; field = field }) false (GivenAll (map (λ (i : List ℕ). Given (Id i)) ids))
-
--- RowShare is the last object: its fields 2 and 3 are RowId and UserId
-abbrev pub row_share : Schema → ℕ
-row_share schema = length schema.objects - 1
-
--- what is shared with a user of these rows
-abbrev pub shares_on : List (List ℕ) → ℕ → Cond
-shares_on ids user = All (within 2 ids ∷ Compare (record { parents = []; field = 3 }) Equal (Given (Id (user_id user))) ∷ [])

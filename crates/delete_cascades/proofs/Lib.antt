@@ -1,0 +1,6 @@
+mod Tests
+mod Places
+mod Marks
+mod Under
+mod Stays
+mod Settling

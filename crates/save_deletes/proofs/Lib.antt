@@ -1,0 +1,4 @@
+mod Lists
+mod Sets
+mod Going
+mod Down

@@ -1,0 +1,4 @@
+pub mod Placing
+pub mod Loads
+pub mod Nexts
+pub mod Parts
