@@ -1,10 +1,12 @@
-pub mod Refusals
-pub mod States
-pub mod Values
+pub mod Classes
 pub mod Meanings
+pub mod Exceptions
+pub mod Preparing
 pub mod Operations
+pub mod Collections
+pub mod Builtins
 pub mod Places
 pub mod Expressions
 pub mod Statements
+pub mod Bodies
 pub mod Runs
-pub mod Laws

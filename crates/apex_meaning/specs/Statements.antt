@@ -1,112 +1,140 @@
 -- What statements do (docs/language.md, "What code does").
-use Rattle.std.specs.Prelude.{ℕ, List, [], ◌∷◌, map, slice_get, Option, None, Some}
+use Rattle.std.specs.Prelude.{ℕ, Bool, true, false, cond, List, [], ◌∷◌, map, slice_get, Option, None, Some}
+use Rattle.activations.specs.declared.abrupt.Abrupt.TheVariants.{Returns, Breaks, Continues}
 use Rattle.apex_num.specs.declared.cell.Cell.{Cell}
-use Rattle.apex_num.specs.declared.cell.Cell.TheVariants.{Id}
 use Rattle.apex_num.specs.declared.kind.LimitKind.TheVariants.{Steps}
-use Rattle.apex_requests.specs.declared.request.SaveRow.{SaveRow}
 use Rattle.apex_syntax.specs.declared.stmt.DmlOp.TheVariants.{Insert}
 use Rattle.platform_errors.specs.declared.thrown.Thrown.TheVariants.{NullObject}
-use Rattle.save_meaning.specs.Sites.{Site}
-use Rattle.save_meaning.specs.Inserts.{insert}
-use Rattle.txn_heap.specs.Changes.{changed, thing_after}
-use Rattle.txn_heap.specs.declared.change.Change.TheVariants.{Know}
+use Rattle.save_meaning.specs.Results.{Gives, Stops, Leaves, bind}
+use Rattle.request_states.specs.Runs.{Setting, site_of}
+use Rattle.request_states.specs.States.{State, Res, charge, set_local, throws, unbuilt}
+use Rattle.request_states.specs.Statements.{insert_these, records_of}
+use Rattle.request_states.specs.Values.{null}
+use Rattle.static_types.specs.declared.kind.ValueType.{ValueType}
 use Rattle.txn_heap.specs.declared.thing.Thing.{Thing}
 use Rattle.txn_heap.specs.declared.thing.Thing.TheVariants as T
 use Rattle.txn_heap.specs.declared.thing.Value.{Value}
 use Rattle.txn_heap.specs.declared.thing.Value.TheVariants.{Plain, Object}
-use Rattle.typed_program.specs.declared.stmt.Saved.{Saved}
-use Rattle.typed_program.specs.declared.stmt.Saved.TheVariants.{One, Many}
+use Rattle.typed_program.specs.declared.expr.Conversion.{Conversion}
+use Rattle.typed_program.specs.declared.expr.TypedExpr.{TypedExpr}
 use Rattle.typed_program.specs.declared.stmt.TypedLocal.{TypedLocal}
+use Rattle.typed_program.specs.declared.stmt.TypedStart.{TypedStart}
+use Rattle.typed_program.specs.declared.stmt.TypedStart.TheVariants as Begins
 use Rattle.typed_program.specs.declared.stmt.TypedStmt.{TypedStmt}
 use Rattle.typed_program.specs.declared.stmt.TypedStmt.TheOpen.{TypedStmt-F, TypedCatch-F}
 use Rattle.typed_program.specs.declared.stmt.TypedStmt.TheFolds.{fold-TypedStmt}
-use Rattle.typed_program.specs.declared.expr.TypedExpr.{TypedExpr}
-use Rattle.save_meaning.specs.Results.{Gives, bind}
-use Rattle.apex_meaning.specs.States.{State, Res, saved, throws, unbuilt, charge, keeps, set_local, with_heap}
-use Rattle.apex_meaning.specs.Values.{null}
+use Rattle.value_operators.specs.Operators.{converted}
+use Rattle.apex_meaning.specs.Exceptions.{Clause, catching, throw}
 use Rattle.apex_meaning.specs.Expressions.{value_of}
+use Rattle.apex_meaning.specs.Meanings.{Again, Do, Run, Test, all_do, calc, dropped, finally, looping, test, turn, truth_of}
 
-abbrev pub Do : Type 0
-Do = State → Res (Unit {0})
+-- ---- loops over collections
 
-abbrev pub all_do : List Do → Do
-all_do [] st = Gives tt st
-all_do (d ∷ ds) st = bind (d st) (λ u s. all_do ds s)
+-- the items of a list or a set; a null one throws
+abbrev pub items_of_thing : Option Thing → Option (List Value)
+items_of_thing (Some (T.List vs)) = Some vs
+items_of_thing (Some (T.Set cs)) = Some (map Plain cs)
+items_of_thing _ = None
 
--- ---- the records that a statement saves: the object, and where they are in the heap; none where there is a null
+abbrev pub items_of : Value → List Thing → Option (List Value)
+items_of (Plain c) heap = None
+items_of (Object r) heap = items_of_thing (slice_get heap r.place)
 
-abbrev pub with_place : ℕ → Option (List ℕ) → Option (List ℕ)
-with_place p None = None
-with_place p (Some ps) = Some (p ∷ ps)
+-- each item in turn, as they were at the start; each test costs a step
+abbrev pub each : ℕ → Conversion → Do → List Value → Do
+each slot how body [] st = charge Steps 1 st
+each slot how body (v ∷ vs) st =
+    bind (charge Steps 1 st) (λ u s.
+    bind (calc (converted how v) s) (λ w s1.
+    looping (body (set_local slot w s1)) (each slot how body vs)))
 
-abbrev pub places_of : List Value → Option (List ℕ)
-places_of [] = Some []
-places_of (Object r ∷ vs) = with_place r.place (places_of vs)
-places_of (Plain c ∷ vs) = None
+abbrev pub each_of : ℕ → Conversion → Do → Option (List Value) → Do
+each_of slot how body None st = throws NullObject st
+each_of slot how body (Some vs) st = each slot how body vs st
 
-abbrev pub places_in : Option Thing → Option (List ℕ)
-places_in (Some (T.List vs)) = places_of vs
-places_in _ = None
+-- ---- forms
 
-abbrev pub of_object : ℕ → Option (List ℕ) → Option (ℕ × List ℕ)
-of_object object None = None
-of_object object (Some ps) = Some (object, ps)
+abbrev pub finally_or : Option Do → Res (Unit {0}) → Res (Unit {0})
+finally_or None r = r
+finally_or (Some last) r = finally r last
 
-abbrev pub records_of : Saved → Value → List Thing → Option (ℕ × List ℕ)
-records_of (One object) (Object r) heap = Some (object, r.place ∷ [])
-records_of (Many object) (Object r) heap = of_object object (places_in (slice_get heap r.place))
-records_of _ _ heap = None
+abbrev pub all_or : Option (List Do) → Option Do
+all_or None = None
+all_or (Some ds) = Some (all_do ds)
 
--- what of a record is saved: what it knows
-abbrev pub id_in : List (Option Cell) → Option (List ℕ)
-id_in (Some (Id i) ∷ cells) = Some i
-id_in _ = None
+abbrev pub do_or : Option Do → Do
+do_or None st = Gives tt st
+do_or (Some d) st = d st
 
-abbrev pub row_in : ℕ → Option Thing → SaveRow
-row_in place (Some (T.Record r)) = record { key = place; id = id_in r.cells; cells = r.cells }
-row_in place _ = record { key = place; id = None; cells = [] }
+module _ (setting : Setting) (again : Again) (names : List (List ℕ)) where
+  abbrev pub value : TypedExpr → Run
+  value e = value_of setting again names e
 
-abbrev pub rows_in : List Thing → List ℕ → List SaveRow
-rows_in heap ps = map (λ p. row_in p (slice_get heap p)) ps
-
--- a saved record has its Id
-abbrev pub set_ids : List ℕ → List (List ℕ) → List Thing → List Thing
-set_ids [] ids heap = heap
-set_ids (p ∷ ps) [] heap = heap
-set_ids (p ∷ ps) (i ∷ is) heap = set_ids ps is (changed p (thing_after (Know 0 (Id i))) heap)
-
-module _ (site : Site) where
-  abbrev pub insert_at : ℕ → List ℕ → Do
-  insert_at object ps st =
-      bind (saved (insert keeps site object (rows_in st.world.heap ps) st)) (λ ids s. Gives tt (with_heap (set_ids ps ids s.world.heap) s))
-
-  -- a null list and a null record throw before anything is charged
-  abbrev pub insert_these : Option (ℕ × List ℕ) → Do
-  insert_these None st = throws NullObject st
-  insert_these (Some r) st = insert_at r.0 r.1 st
-
-  abbrev pub local_value : Option TypedExpr → State → Res Value
+  -- a local without a value is null
+  abbrev pub local_value : Option TypedExpr → Run
   local_value None st = Gives null st
-  local_value (Some e) st = value_of site e st
+  local_value (Some e) st = value e st
 
   abbrev pub declare_all : List TypedLocal → Do
   declare_all [] st = Gives tt st
   declare_all (l ∷ ls) st = bind (local_value l.value st) (λ v s. declare_all ls (set_local l.slot v s))
 
-  -- a statement costs a step when it starts; one in braces costs nothing beside those in it
-  abbrev pub stmt_step : TypedStmt-F Do Do → Do
-  stmt_step (TypedStmt-F.Block ds) st = all_do ds st
-  stmt_step (TypedStmt-F.Declare ls) st = bind (charge Steps 1 st) (λ u s. declare_all ls s)
-  stmt_step (TypedStmt-F.Expr e) st = bind (charge Steps 1 st) (λ u s. bind (value_of site e s) (λ v s1. Gives tt s1))
-  stmt_step (TypedStmt-F.Dml Insert what e) st =
-      bind (charge Steps 1 st) (λ u s. bind (value_of site e s) (λ v s1. insert_these (records_of what v s1.world.heap) s1))
-  stmt_step _ st = unbuilt st
+  abbrev pub effect : TypedExpr → Do
+  effect e st = dropped (value e st)
 
-  abbrev pub catch_step : TypedCatch-F Do Do → Do
-  catch_step c st = unbuilt st
+  abbrev pub effect_or : Option TypedExpr → Do
+  effect_or None st = Gives tt st
+  effect_or (Some e) st = effect e st
+
+  -- a loop without a condition goes on
+  abbrev pub condition : Option TypedExpr → Test
+  condition None st = Gives true st
+  condition (Some e) st = test (value e) st
+
+  abbrev pub nothing : Do
+  nothing st = Gives tt st
+
+  abbrev pub begins : TypedStart → Do
+  begins Begins.Nothing st = Gives tt st
+  begins (Begins.Declare ls) st = declare_all ls st
+  begins (Begins.Expr e) st = effect e st
+
+  abbrev pub chosen : Do → Option Do → Bool → Do
+  chosen a b true st = a st
+  chosen a b false st = do_or b st
+
+  abbrev pub returns : Option TypedExpr → Do
+  returns None st = Stops (Leaves (Returns null)) st
+  returns (Some e) st = bind (value e st) (λ v s. Stops (Leaves (Returns v)) s)
+
+  -- what a statement does once it has started
+  abbrev pub started : TypedStmt-F Do Clause → Do
+  started (TypedStmt-F.Block ds) st = all_do ds st
+  started (TypedStmt-F.Declare ls) st = declare_all ls st
+  started (TypedStmt-F.Expr e) st = effect e st
+  started (TypedStmt-F.If c a b) st = bind (test (value c) st) (chosen a b)
+  started (TypedStmt-F.While c body) st = again.loop (test (value c)) body nothing st
+  started (TypedStmt-F.Do body c) st = looping (body st) (again.loop (test (value c)) body nothing)
+  started (TypedStmt-F.For start c next body) st = bind (begins start st) (λ u s. again.loop (condition c) body (effect_or next) s)
+  started (TypedStmt-F.ForEach slot how e body) st = bind (value e st) (λ v s. each_of slot how body (items_of v s.world.heap) s)
+  started (TypedStmt-F.Return e) st = returns e st
+  started TypedStmt-F.Break st = Stops (Leaves Breaks) st
+  started TypedStmt-F.Continue st = Stops (Leaves Continues) st
+  started (TypedStmt-F.Throw e) st = bind (value e st) throw
+  started (TypedStmt-F.Try body clauses last) st = finally_or (all_or last) (catching setting.program clauses (all_do body st))
+  started (TypedStmt-F.Dml Insert what e) st = bind (value e st) (λ v s. insert_these (site_of setting) (records_of what v s.world.heap) s)
+  started (TypedStmt-F.Dml op what e) st = unbuilt st
+
+  -- a statement costs a step when it starts; one in braces costs nothing beside those in it
+  abbrev pub stmt_step : TypedStmt-F Do Clause → Do
+  stmt_step (TypedStmt-F.Block ds) st = all_do ds st
+  stmt_step form st = bind (charge Steps 1 st) (λ u s. started form s)
+
+  abbrev pub catch_step : TypedCatch-F Do Clause → Clause
+  catch_step c = record { kind = c.kind; slot = c.slot; body = all_do c.body }
 
   abbrev pub does : TypedStmt → Do
-  does = fold-TypedStmt Do Do stmt_step catch_step
+  does = fold-TypedStmt Do Clause stmt_step catch_step
 
   abbrev pub does_all : List TypedStmt → Do
   does_all ss = all_do (map does ss)

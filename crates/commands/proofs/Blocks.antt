@@ -14,9 +14,9 @@ use Rattle.apex_types.specs.Checks.{Check, Gives, checked, block_of, home_of}
 use Rattle.fault_words.specs.declared.fault.Fault.{Fault}
 use Rattle.record_store.specs.Places.{answer_to}
 use Rattle.session_runs.specs.Blocks.{RunsTo}
-use Rattle.program_code.specs.declared.image.Image.{Image}
-use Rattle.program_code.specs.Means.{Means}
-use Rattle.program_machine.specs.Runs.{plain}
+use Rattle.stack_code.specs.declared.image.Image.{Image}
+use Rattle.stack_code.specs.Means.{Means}
+use Rattle.metered_vm.specs.Runs.{plain}
 use Rattle.tenant_trails.specs.Runs.{Run, Asks, Ends, Follows, Evaluates}
 use Rattle.tenant_units.specs.Faults.{IsFaultOf}
 use Rattle.tenant_units.specs.Trees.{block_rule, block_name, IsBlock}

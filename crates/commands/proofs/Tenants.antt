@@ -8,7 +8,7 @@ use Rattle.bundle_read.specs.declared.entries.TenantPlan.{TenantPlan}
 use Rattle.bundle_read.specs.Bundles.{IsRead}
 use Rattle.tenant_parts.specs.declared.part.TenantPart.{TenantPart}
 use Rattle.tenant_front.specs.Parts.{IsPart, IsFrontFault}
-use Rattle.program_code.specs.declared.image.Image.{Image}
+use Rattle.stack_code.specs.declared.image.Image.{Image}
 use Rattle.commands.specs.Built.{is_built}
 use Rattle.commands.specs.declared.turns.Book.{Book}
 use Rattle.commands.specs.Turns.{Comes, AllCome, part_not_yet, Runs, Refuses, RefusesBy, IsInput, bad_line, turns_not_yet}

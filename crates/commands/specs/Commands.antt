@@ -2,7 +2,7 @@
 use Rattle.std.specs.Prelude.{◌≡◌, ℕ, ◌⊎◌, List, [], ◌∷◌, ◌++◌, codes, Option}
 use Rattle.apex_io.specs.Outside.{Adds}
 use Rattle.apex_io.specs.Whole.{WriteCause}
-use Rattle.program_code.specs.declared.image.Image.{Image}
+use Rattle.stack_code.specs.declared.image.Image.{Image}
 use Rattle.commands.specs.declared.words.Row.{Row}
 use Rattle.commands.specs.Answers.{Outside}
 use Rattle.commands.specs.Exec.{Execs}

@@ -17,12 +17,12 @@ use Rattle.type_names.specs.declared.fault.TreeFault.{TreeFault}
 use Rattle.typed_program.specs.declared.program.Program.{Program}
 use Rattle.typed_program.specs.declared.stmt.TypedStmt.{TypedStmt}
 use Rattle.apex_types.specs.Checks.{Gives, checked}
-use Rattle.apex_meaning.specs.Runs.{Setting}
-use Rattle.language_meaning.specs.Runs.{run}
+use Rattle.request_states.specs.Runs.{Setting}
+use Rattle.apex_meaning.specs.Runs.{run}
 use Rattle.tenant_trails.specs.Runs.{Evaluates}
-use Rattle.program_code.specs.declared.image.Image.{Image}
-use Rattle.program_code.specs.Means.{Means}
-use Rattle.program_machine.specs.Runs.{plain}
+use Rattle.stack_code.specs.declared.image.Image.{Image}
+use Rattle.stack_code.specs.Means.{Means}
+use Rattle.metered_vm.specs.Runs.{plain}
 use Rattle.session_runs.specs.Blocks.{RunsTo}
 use Rattle.reply_text.specs.Lines.{fault_text, reply_text}
 use Rattle.commands.specs.Answers.{Answered, Outside}

@@ -11,7 +11,7 @@ use Rattle.reply_text.specs.Reports.{report}
 use Rattle.tenant_parts.specs.declared.part.TenantPart.{TenantPart}
 use Rattle.tenant_front.specs.Parts.{IsPart, IsFrontFault}
 use Rattle.tenant_runs.specs.Tenants.{IsRan}
-use Rattle.program_code.specs.declared.image.Image.{Image}
+use Rattle.stack_code.specs.declared.image.Image.{Image}
 use Rattle.commands.specs.declared.answer.Made.{Made}
 use Rattle.commands.specs.declared.answer.Made.TheVariants.{Text, Line}
 use Rattle.commands.specs.Answers.{Answered, Outside}

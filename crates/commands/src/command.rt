@@ -10,7 +10,7 @@ use crate::turns::{Book, run_turns_text};
 use crate::words::{Row, command_row};
 use apex_io::{Sink, Source, write_all};
 use apex_list::Items;
-use program_code::Image;
+use stack_code::Image;
 use std::alloc::Global;
 
 /// What a command keeps of its run.

@@ -2,8 +2,8 @@
 use Rattle.std.proofs.Common.{ℕ, zero, suc, ◌+◌, ◌*◌, ◌≤◌, Bool, true, false, List, [], ◌∷◌, map, Option, None, Some, arith}
 use Rattle.apex_num.specs.declared.kind.LimitKind.TheVariants.{Steps}
 use Rattle.save_meaning.specs.Results.{Gives, bind}
-use Rattle.apex_meaning.specs.Runs.{Setting}
-use Rattle.apex_meaning.specs.States.{State, Res, charge}
+use Rattle.request_states.specs.Runs.{Setting}
+use Rattle.request_states.specs.States.{State, Res, charge}
 use Rattle.txn_heap.specs.Statics.{with_static}
 use Rattle.txn_heap.specs.declared.thing.Value.{Value}
 use Rattle.typed_program.specs.declared.expr.TypedExpr.{TypedExpr}
@@ -12,14 +12,14 @@ use Rattle.typed_program.specs.declared.unit.ParentCall.{ParentCall}
 use Rattle.typed_program.specs.declared.unit.ParentCall.TheVariants as P
 use Rattle.typed_program.specs.declared.unit.TypedConstructor.{TypedConstructor}
 use Rattle.typed_program.specs.declared.unit.TypedField.{TypedField}
-use Rattle.language_meaning.specs.Bodies as B
-use Rattle.language_meaning.specs.Bodies.{rounds, enough, body_runs}
-use Rattle.language_meaning.specs.Classes.{and_fields, code_of, constructor_at, field_place, fields_at, no_starts, Starts, starts}
-use Rattle.language_meaning.specs.Expressions.{value_of}
-use Rattle.language_meaning.specs.Meanings.{Again, Body, Method, Constructor, Fields, Statics, Do, Test, looping, returned}
-use Rattle.language_meaning.specs.Preparing as Prep
-use Rattle.language_meaning.specs.Preparing.{with_statics}
-use Rattle.language_meaning.specs.Statements.{does_all}
+use Rattle.apex_meaning.specs.Bodies as B
+use Rattle.apex_meaning.specs.Bodies.{rounds, enough, body_runs}
+use Rattle.apex_meaning.specs.Classes.{and_fields, code_of, constructor_at, field_place, fields_at, no_starts, Starts, starts}
+use Rattle.apex_meaning.specs.Expressions.{value_of}
+use Rattle.apex_meaning.specs.Meanings.{Again, Body, Method, Constructor, Fields, Statics, Do, Test, looping, returned}
+use Rattle.apex_meaning.specs.Preparing as Prep
+use Rattle.apex_meaning.specs.Preparing.{with_statics}
+use Rattle.apex_meaning.specs.Statements.{does_all}
 use Rattle.language_laws.proofs.Paid.{Paid as From, Each, none, more, paid_gives, paid_puts, paid_bind, paid_less, paid_none, freely, paid_charge, paid_step, paid_in, paid_returned, paid_all_of, paid_cond, paid_looping}
 use Rattle.language_laws.proofs.Classes.{Enough, EnoughFields, paid_started, paid_constructed, paid_message}
 use Rattle.language_laws.proofs.Places.{paid_set_field}

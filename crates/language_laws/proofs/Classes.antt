@@ -7,8 +7,8 @@ use Rattle.apex_num.specs.declared.cell.Cell.TheVariants as C
 use Rattle.apex_num.specs.declared.kind.LimitKind.TheVariants.{Steps, Alloc}
 use Rattle.limit_meter.specs.Charges.{charged}
 use Rattle.save_meaning.specs.Results.{Gives, bind}
-use Rattle.apex_meaning.specs.States.{State, make}
-use Rattle.apex_meaning.specs.Values.{null}
+use Rattle.request_states.specs.States.{State, make}
+use Rattle.request_states.specs.Values.{null}
 use Rattle.txn_heap.specs.declared.thing.Thing.TheVariants as T
 use Rattle.txn_heap.specs.declared.thing.Value.{Value}
 use Rattle.txn_heap.specs.declared.thing.Value.TheVariants.{Plain, Object}
@@ -17,10 +17,10 @@ use Rattle.typed_program.specs.declared.expr.Constructor.{Constructor}
 use Rattle.typed_program.specs.declared.expr.Constructor.TheVariants as K
 use Rattle.typed_program.specs.declared.program.Program.{Program}
 use Rattle.typed_program.specs.declared.unit.TypedClass.{TypedClass}
-use Rattle.language_meaning.specs.Classes.{class_at, chain, chain_within, linked, parent_of, Starts, own_starts, instance_fields, width}
-use Rattle.language_meaning.specs.Meanings.{Again, Body, Constructor as Written, Fields, Statics, Do, Test, called}
-use Rattle.language_meaning.specs.Preparing as Prep
-use Rattle.language_meaning.specs.Preparing.{marked, unprepared, with_statics, set_message, with_message}
+use Rattle.apex_meaning.specs.Classes.{class_at, chain, chain_within, linked, parent_of, Starts, own_starts, instance_fields, width}
+use Rattle.apex_meaning.specs.Meanings.{Again, Body, Constructor as Written, Fields, Statics, Do, Test, called}
+use Rattle.apex_meaning.specs.Preparing as Prep
+use Rattle.apex_meaning.specs.Preparing.{marked, unprepared, with_statics, set_message, with_message}
 use Rattle.language_laws.proofs.Paid
 use Rattle.language_laws.proofs.Paid.{Paid, Each, none, more, paid_at, paid_gives, paid_puts, paid_bind, paid_before, paid_charge, paid_throws, paid_units, paid_dropped, paid_called, paid_all_do, paid_make, comes_on}
 use Rattle.language_laws.proofs.Prepared.{stay_marked, now_marked, one_more_prepared}

@@ -14,21 +14,21 @@ use Rattle.apex_rows.specs.declared.row.Writes.{Writes}
 use Rattle.limit_meter.specs.Charges.{counter, limit_of, fits}
 use Rattle.save_meaning.specs.Transactions.{charge_if}
 use Rattle.save_meaning.specs.Results.{Finish, Halts, Needs, Unfinished, Unbuilt, Gives, Stops, Leaves, Closes, bind}
-use Rattle.apex_meaning.specs.Refusals.{no_writes, refusal, not_yet}
-use Rattle.apex_meaning.specs.Runs.{Setting, first_state, ended}
-use Rattle.apex_meaning.specs.States.{State, World, Res, charge, keeps}
+use Rattle.request_states.specs.Refusals.{no_writes, refusal, not_yet}
+use Rattle.request_states.specs.Runs.{Setting, first_state, ended}
+use Rattle.request_states.specs.States.{State, World, Res, charge, keeps}
 use Rattle.tenant_trails.specs.Runs.{Asks, Ends}
 use Rattle.typed_program.specs.declared.stmt.TypedCatch.{TypedCatch}
 use Rattle.typed_program.specs.declared.stmt.TypedStmt.{TypedStmt}
 use Rattle.typed_program.specs.declared.stmt.TypedStmt.TheOpen.{TypedStmt-F}
 use Rattle.typed_program.specs.declared.stmt.TypedStmt.TheFolds.{fold-TypedCatch, fold-roll-TypedStmt}
-use Rattle.language_meaning.specs.Bodies.{rounds, enough}
-use Rattle.language_meaning.specs.Exceptions.{Clause, catching}
-use Rattle.language_meaning.specs.Meanings.{Again, Do, finally}
+use Rattle.apex_meaning.specs.Bodies.{rounds, enough}
+use Rattle.apex_meaning.specs.Exceptions.{Clause, catching}
+use Rattle.apex_meaning.specs.Meanings.{Again, Do, finally}
 use Rattle.typed_program.specs.declared.program.Program.{Program}
-use Rattle.language_meaning.specs.Runs.{names_of, run_of, block_does}
-use Rattle.language_meaning.specs.Statements as D
-use Rattle.language_meaning.specs.Statements.{does_all}
+use Rattle.apex_meaning.specs.Runs.{names_of, run_of, block_does}
+use Rattle.apex_meaning.specs.Statements as D
+use Rattle.apex_meaning.specs.Statements.{does_all}
 use Rattle.language_laws.specs.Limits
 use Rattle.language_laws.specs.Limits.{state_of, left_at, Within, Passed, trying}
 use Rattle.language_laws.specs.Rounds.{RoundsSuffice}

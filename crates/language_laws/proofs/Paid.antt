@@ -11,12 +11,12 @@ use Rattle.save_meaning.specs.Results as R
 use Rattle.save_meaning.specs.Results.{Finish, Halts, Needs, Unfinished, Unbuilt, Stop, Gives, Stops, Leaves, Closes, bind, leaving, leaves_as, Holds}
 use Rattle.save_meaning.specs.Transactions as Save
 use Rattle.save_meaning.specs.Transactions.{left}
-use Rattle.apex_meaning.specs.States.{World, State, Res, charge, keeps, saved, throws, unbuilt, make}
+use Rattle.request_states.specs.States.{World, State, Res, charge, keeps, saved, throws, unbuilt, make}
 use Rattle.txn_heap.specs.declared.thing.Thing.{Thing}
 use Rattle.typed_program.specs.declared.program.Program.{Program}
 use Rattle.value_operators.specs.Operators.{Calc}
 use Rattle.value_operators.specs.declared.calculated.Calculated.TheVariants.{Val, Fails}
-use Rattle.language_meaning.specs.Meanings.{Do, Run, all_do, all_of, dropped, calc, known_truth, truth_of, test, back, in_here, returned, no_longer_open, called, looping, finally}
+use Rattle.apex_meaning.specs.Meanings.{Do, Run, all_do, all_of, dropped, calc, known_truth, truth_of, test, back, in_here, returned, no_longer_open, called, looping, finally}
 use Rattle.language_laws.specs.Limits.{Passed, by_ones}
 use Rattle.language_laws.proofs.Worlds.{Sound, spent, most_spent, spent_at_most, Later, later_same, later_kept, later_on, later_charged, later_left, spends_steps, spends_units}
 

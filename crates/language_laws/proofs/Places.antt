@@ -7,10 +7,10 @@ use Rattle.builtin_table.specs.declared.method.ListMethod.TheVariants as L
 use Rattle.heap_methods.specs.Operands.{or_null}
 use Rattle.platform_errors.specs.declared.thrown.Thrown.TheVariants.{NullObject, InvalidConversion}
 use Rattle.save_meaning.specs.Results.{Gives}
-use Rattle.apex_meaning.specs.Runs.{Setting}
-use Rattle.apex_meaning.specs.Expressions as Small
-use Rattle.apex_meaning.specs.States.{charge, with_heap, with_line, set_local}
-use Rattle.apex_meaning.specs.Values.{null}
+use Rattle.request_states.specs.Runs.{Setting}
+use Rattle.request_states.specs.Expressions as Small
+use Rattle.request_states.specs.States.{charge, with_heap, with_line, set_local}
+use Rattle.request_states.specs.Values.{null}
 use Rattle.txn_heap.specs.Statics.{static_at, with_static}
 use Rattle.txn_heap.specs.declared.thing.Thing.{Thing}
 use Rattle.txn_heap.specs.declared.thing.Thing.TheVariants as T
@@ -23,14 +23,14 @@ use Rattle.typed_program.specs.declared.expr.StepKind.{StepKind}
 use Rattle.typed_program.specs.declared.program.Program.{Program}
 use Rattle.value_operators.specs.Operators.{converted, stepped}
 use Rattle.value_texts.specs.Texts.{text_of}
-use Rattle.language_meaning.specs.Classes.{field_place, target}
-use Rattle.language_meaning.specs.Exceptions as X
-use Rattle.language_meaning.specs.Expressions as E
-use Rattle.language_meaning.specs.Meanings.{Again, Method, Run}
-use Rattle.language_meaning.specs.Places as Pl
-use Rattle.language_meaning.specs.Places.{Target, LocalAt, StaticAt, FieldAt, CellAt, ItemAt}
-use Rattle.language_meaning.specs.Preparing.{with_statics}
-use Rattle.language_meaning.specs.Preparing as Prep
+use Rattle.apex_meaning.specs.Classes.{field_place, target}
+use Rattle.apex_meaning.specs.Exceptions as X
+use Rattle.apex_meaning.specs.Expressions as E
+use Rattle.apex_meaning.specs.Meanings.{Again, Method, Run}
+use Rattle.apex_meaning.specs.Places as Pl
+use Rattle.apex_meaning.specs.Places.{Target, LocalAt, StaticAt, FieldAt, CellAt, ItemAt}
+use Rattle.apex_meaning.specs.Preparing.{with_statics}
+use Rattle.apex_meaning.specs.Preparing as Prep
 use Rattle.language_laws.proofs.Paid.{Paid, paid_gives, paid_puts, paid_bind, freely, paid_charge, paid_throws, paid_unbuilt, paid_calc}
 use Rattle.language_laws.proofs.Prepared.{stay_written}
 use Rattle.language_laws.proofs.Worlds.{later_same, later_kept, later_line, later_statics}

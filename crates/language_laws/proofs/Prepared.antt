@@ -9,7 +9,7 @@ use Rattle.txn_heap.specs.declared.thing.Value.{Value}
 use Rattle.txn_heap.specs.declared.thing.Value.TheVariants.{Plain}
 use Rattle.txn_heap.specs.Statics.{is_prepared, prepare, with_static}
 use Rattle.typed_program.specs.declared.program.Program.{Program}
-use Rattle.language_meaning.specs.Preparing.{marked}
+use Rattle.apex_meaning.specs.Preparing.{marked}
 
 abbrev pub Statics : Type 0
 Statics = List (ℕ × List Value)

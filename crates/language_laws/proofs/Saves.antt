@@ -25,9 +25,9 @@ use Rattle.save_meaning.specs.Transactions.{ask, set_overlay}
 use Rattle.save_meaning.specs.declared.draft.Draft.{Draft}
 use Rattle.save_meaning.specs.declared.draft.Draft.TheVariants.{Going, Wrong}
 use Rattle.save_meaning.specs.declared.draft.Reference.{Reference}
-use Rattle.apex_meaning.specs.Expressions as E
-use Rattle.apex_meaning.specs.States.{State, keeps, saved, with_heap}
-use Rattle.apex_meaning.specs.Statements.{insert_at, insert_these, rows_in, set_ids}
+use Rattle.request_states.specs.Expressions as E
+use Rattle.request_states.specs.States.{State, keeps, saved, with_heap}
+use Rattle.request_states.specs.Statements.{insert_at, insert_these, rows_in, set_ids}
 use Rattle.txn_heap.specs.declared.thing.Value.TheVariants.{Plain}
 use Rattle.typed_program.specs.declared.program.Program.{Program}
 use Rattle.language_laws.proofs.Paid

@@ -7,12 +7,12 @@ use Rattle.apex_num.specs.declared.kind.LimitKind.TheVariants.{Steps}
 use Rattle.apex_syntax.specs.declared.stmt.DmlOp.TheVariants as Dml
 use Rattle.platform_errors.specs.declared.thrown.Thrown.TheVariants.{NullObject}
 use Rattle.save_meaning.specs.Results.{Gives, Stops, Leaves, Closes, bind}
-use Rattle.apex_meaning.specs.Runs.{Setting, site_of}
-use Rattle.apex_meaning.specs.States.{State, Res, World, charge, set_local}
-use Rattle.apex_meaning.specs.Statements.{records_of}
-use Rattle.apex_meaning.specs.Statements as Small
+use Rattle.request_states.specs.Runs.{Setting, site_of}
+use Rattle.request_states.specs.States.{State, Res, World, charge, set_local}
+use Rattle.request_states.specs.Statements.{records_of}
+use Rattle.request_states.specs.Statements as Small
 use Rattle.typed_program.specs.declared.stmt.Saved.{Saved}
-use Rattle.apex_meaning.specs.Values.{null}
+use Rattle.request_states.specs.Values.{null}
 use Rattle.txn_heap.specs.declared.thing.Value.{Value}
 use Rattle.txn_heap.specs.declared.thing.Value.TheVariants.{Plain, Object}
 use Rattle.typed_program.specs.declared.expr.Conversion.{Conversion}
@@ -27,10 +27,10 @@ use Rattle.typed_program.specs.declared.stmt.TypedStmt.TheOpen.{TypedStmt-F, Typ
 use Rattle.typed_program.specs.declared.stmt.TypedStmt.TheViews.{roll-TypedStmt, roll-TypedCatch}
 use Rattle.typed_program.specs.declared.stmt.TypedStmt.TheFolds.{fold-TypedCatch, fold-roll-TypedStmt, fold-roll-TypedCatch, ind-TypedStmt, map-TypedStmt, map-TypedCatch}
 use Rattle.value_operators.specs.Operators.{converted}
-use Rattle.language_meaning.specs.Exceptions as X
-use Rattle.language_meaning.specs.Exceptions.{Clause, catching, caught_by, clause_for, takes, throw}
-use Rattle.language_meaning.specs.Meanings.{Again, Do, all_do, calc, test}
-use Rattle.language_meaning.specs.Statements as D
+use Rattle.apex_meaning.specs.Exceptions as X
+use Rattle.apex_meaning.specs.Exceptions.{Clause, catching, caught_by, clause_for, takes, throw}
+use Rattle.apex_meaning.specs.Meanings.{Again, Do, all_do, calc, test}
+use Rattle.apex_meaning.specs.Statements as D
 use Rattle.language_laws.proofs.Paid.{Paid as From, Comes, Each, none, more, paid_at, paid_gives, paid_leaves, paid_bind, paid_before, freely, paid_charge, paid_throws, paid_unbuilt, paid_calc, paid_test, paid_dropped, paid_make, paid_looping, paid_finally, paid_all_do}
 use Rattle.language_laws.proofs.Classes.{Enough}
 use Rattle.language_laws.proofs.Saves.{paid_insert_these}

@@ -19,9 +19,9 @@ use Rattle.heap_methods.specs.Outcomes.{Outcome, Done, Answers, Throws, done as 
 use Rattle.heap_methods.specs.Making.{copied}
 use Rattle.platform_errors.specs.declared.thrown.Thrown.TheVariants.{NullObject}
 use Rattle.save_meaning.specs.Results.{bind}
-use Rattle.apex_meaning.specs.Expressions as Small
+use Rattle.request_states.specs.Expressions as Small
 use Rattle.save_meaning.specs.Sites.{Site}
-use Rattle.apex_meaning.specs.States.{State, World, charge}
+use Rattle.request_states.specs.States.{State, World, charge}
 use Rattle.txn_heap.specs.declared.thing.Thing.{Thing}
 use Rattle.txn_heap.specs.declared.thing.Value.{Value}
 use Rattle.txn_heap.specs.declared.thing.Value.TheVariants.{Plain, Object}
@@ -31,11 +31,11 @@ use Rattle.typed_program.specs.declared.expr.Conversion.{Conversion}
 use Rattle.typed_program.specs.declared.expr.TypedOp.{TypedOp}
 use Rattle.typed_program.specs.declared.expr.TypedOp.TheVariants as Op
 use Rattle.typed_program.specs.declared.program.Program.{Program}
-use Rattle.language_meaning.specs.Builtins as Built
-use Rattle.language_meaning.specs.Collections as Coll
-use Rattle.language_meaning.specs.Exceptions as X
-use Rattle.language_meaning.specs.Meanings.{Run, truth_of}
-use Rattle.language_meaning.specs.Operations as Ops
+use Rattle.apex_meaning.specs.Builtins as Built
+use Rattle.apex_meaning.specs.Collections as Coll
+use Rattle.apex_meaning.specs.Exceptions as X
+use Rattle.apex_meaning.specs.Meanings.{Run, truth_of}
+use Rattle.apex_meaning.specs.Operations as Ops
 use Rattle.language_laws.proofs.Paid
 use Rattle.language_laws.proofs.Paid.{Paid, paid_gives, paid_leaves, paid_puts, paid_bind, paid_before, freely, paid_charge, paid_throws, paid_unbuilt, paid_calc, paid_known, paid_make}
 use Rattle.language_laws.proofs.Worlds.{Sound, Later, later_same, later_kept}

@@ -19,17 +19,17 @@ use Rattle.typed_program.specs.declared.expr.TypedBind.TheFolds.{fold-TypedBind,
 use Rattle.txn_heap.specs.declared.thing.Value.{Value}
 use Rattle.save_meaning.specs.Results.{bind}
 use Rattle.value_operators.specs.Operators.{converted, negated}
-use Rattle.apex_meaning.specs.Expressions as Small
-use Rattle.apex_meaning.specs.Runs.{Setting, site_of}
-use Rattle.apex_meaning.specs.States.{State, Res}
-use Rattle.apex_meaning.specs.Values.{null, is_cell}
-use Rattle.language_meaning.specs.Classes.{field_place}
-use Rattle.language_meaning.specs.Exceptions.{is_declared, is_built_in}
-use Rattle.language_meaning.specs.Expressions as E
-use Rattle.language_meaning.specs.Expressions.{Where, Entry, all_entries, parts_of}
-use Rattle.language_meaning.specs.Meanings.{Again, Run, Behind, all_of, calc, test}
-use Rattle.language_meaning.specs.Operations.{boolean, chained}
-use Rattle.language_meaning.specs.Places.{LocalAt, StaticAt, FieldAt, CellAt, ItemAt}
+use Rattle.request_states.specs.Expressions as Small
+use Rattle.request_states.specs.Runs.{Setting, site_of}
+use Rattle.request_states.specs.States.{State, Res}
+use Rattle.request_states.specs.Values.{null, is_cell}
+use Rattle.apex_meaning.specs.Classes.{field_place}
+use Rattle.apex_meaning.specs.Exceptions.{is_declared, is_built_in}
+use Rattle.apex_meaning.specs.Expressions as E
+use Rattle.apex_meaning.specs.Expressions.{Where, Entry, all_entries, parts_of}
+use Rattle.apex_meaning.specs.Meanings.{Again, Run, Behind, all_of, calc, test}
+use Rattle.apex_meaning.specs.Operations.{boolean, chained}
+use Rattle.apex_meaning.specs.Places.{LocalAt, StaticAt, FieldAt, CellAt, ItemAt}
 use Rattle.language_laws.proofs.Paid.{Paid as From, Each, none, more, paid_gives, paid_bind, paid_unbuilt, paid_calc, paid_test, paid_all_of}
 use Rattle.language_laws.proofs.Classes.{Enough, paid_new}
 use Rattle.language_laws.proofs.Places as Pl

@@ -6,7 +6,7 @@ use Rattle.std.proofs.lemmas.Bool.Decides.{eqb_tells}
 use Rattle.apex_num.specs.declared.kind.LimitKind.{LimitKind}
 use Rattle.apex_num.specs.declared.kind.LimitKind.TheVariants.{Queries, Rows, Dml, Saved, Depth, Steps, Alloc, Calls}
 use Rattle.limit_meter.specs.Charges.{place_of, is_kind, Entry, Charged, Left, charged, leaves, counter, limit_of, fits}
-use Rattle.apex_meaning.specs.States.{World}
+use Rattle.request_states.specs.States.{World}
 use Rattle.typed_program.specs.declared.program.Program.{Program}
 use Rattle.language_laws.proofs.Prepared.{Statics, Stay, prepared_below, more_prepared, prepared_at_most}
 

@@ -9,15 +9,15 @@ use Rattle.apex_rows.specs.declared.query.Answer.{Answer}
 use Rattle.apex_rows.specs.declared.row.Writes.{Writes}
 use Rattle.limit_meter.specs.Charges.{Entry, Charged, counter, limit_of}
 use Rattle.save_meaning.specs.Results.{Finish, Halts, Gives, Stops, Closes}
-use Rattle.apex_meaning.specs.Refusals.{no_writes}
-use Rattle.apex_meaning.specs.Runs.{Setting, first_state}
-use Rattle.apex_meaning.specs.States.{State, Res, charge}
+use Rattle.request_states.specs.Refusals.{no_writes}
+use Rattle.request_states.specs.Runs.{Setting, first_state}
+use Rattle.request_states.specs.States.{State, Res, charge}
 use Rattle.tenant_trails.specs.Runs.{Ends}
 use Rattle.typed_program.specs.declared.stmt.TypedCatch.{TypedCatch}
 use Rattle.typed_program.specs.declared.stmt.TypedStmt.{TypedStmt}
 use Rattle.typed_program.specs.declared.stmt.TypedStmt.TheOpen.{TypedStmt-F}
 use Rattle.typed_program.specs.declared.stmt.TypedStmt.TheViews.{roll-TypedStmt}
-use Rattle.language_meaning.specs.Runs.{block_does, block_run}
+use Rattle.apex_meaning.specs.Runs.{block_does, block_run}
 
 -- with a charge more
 abbrev pub charged_state : LimitKind → ℕ → State → State

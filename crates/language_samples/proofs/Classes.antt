@@ -22,18 +22,18 @@ use Rattle.typed_program.specs.declared.unit.TypedClass.{TypedClass}
 use Rattle.typed_program.specs.declared.unit.TypedConstructor.{TypedConstructor}
 use Rattle.typed_program.specs.declared.unit.TypedField.{TypedField}
 use Rattle.typed_program.specs.declared.unit.TypedMethod.{TypedMethod}
-use Rattle.apex_meaning.specs.Runs.{Setting, first_state}
-use Rattle.apex_meaning.specs.States.{State, charge}
-use Rattle.language_meaning.specs.Bodies as B
-use Rattle.language_meaning.specs.Bodies.{rounds, enough, body_runs}
-use Rattle.language_meaning.specs.Classes
-use Rattle.language_meaning.specs.Classes.{and_fields, code_of, constructor_at, field_place, fields_at, no_starts, starts}
-use Rattle.language_meaning.specs.Meanings.{Again, Body, Method, Constructor as Written, Fields, Statics, Do, Run, all_do, all_of, in_here, returned, turn}
-use Rattle.language_meaning.specs.Places.{set_field}
-use Rattle.language_meaning.specs.Preparing.{constructed, set_message, with_statics}
-use Rattle.language_meaning.specs.Runs.{run_of, names_of, block_does, block_run}
+use Rattle.request_states.specs.Runs.{Setting, first_state}
+use Rattle.request_states.specs.States.{State, charge}
+use Rattle.apex_meaning.specs.Bodies as B
+use Rattle.apex_meaning.specs.Bodies.{rounds, enough, body_runs}
+use Rattle.apex_meaning.specs.Classes
+use Rattle.apex_meaning.specs.Classes.{and_fields, code_of, constructor_at, field_place, fields_at, no_starts, starts}
+use Rattle.apex_meaning.specs.Meanings.{Again, Body, Method, Constructor as Written, Fields, Statics, Do, Run, all_do, all_of, in_here, returned, turn}
+use Rattle.apex_meaning.specs.Places.{set_field}
+use Rattle.apex_meaning.specs.Preparing.{constructed, set_message, with_statics}
+use Rattle.apex_meaning.specs.Runs.{run_of, names_of, block_does, block_run}
 use Rattle.limit_meter.specs.Charges.{Entry}
-use Rattle.language_meaning.specs.Statements.{does_all}
+use Rattle.apex_meaning.specs.Statements.{does_all}
 use Rattle.language_samples.proofs.Known.{Names, ExprOf, expr_trees, expr_all, expr_each}
 use Rattle.language_samples.proofs.Stmts.{StmtOf, stmt_trees, stmt_all, stmt_each}
 

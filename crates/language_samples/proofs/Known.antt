@@ -30,11 +30,11 @@ use Rattle.std.specs.Str.{is_utf8}
 use Rattle.apex_num.specs.declared.cell.Cell.TheVariants as C
 use Rattle.txn_heap.specs.declared.thing.Value.TheVariants.{Plain}
 use Rattle.save_meaning.specs.Results.{Gives}
-use Rattle.apex_meaning.specs.Expressions as Small
-use Rattle.apex_meaning.specs.Runs.{Setting}
-use Rattle.language_meaning.specs.Expressions as E
-use Rattle.language_meaning.specs.Expressions.{Where, Entry}
-use Rattle.language_meaning.specs.Meanings.{Again, Run, Behind}
+use Rattle.request_states.specs.Expressions as Small
+use Rattle.request_states.specs.Runs.{Setting}
+use Rattle.apex_meaning.specs.Expressions as E
+use Rattle.apex_meaning.specs.Expressions.{Where, Entry}
+use Rattle.apex_meaning.specs.Meanings.{Again, Run, Behind}
 
 abbrev pub Names : Type 0
 Names = List (List ℕ)

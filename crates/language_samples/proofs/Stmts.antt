@@ -16,13 +16,13 @@ use Rattle.typed_program.specs.declared.stmt.TypedStmt.{TypedStmt}
 use Rattle.typed_program.specs.declared.stmt.TypedStmt.TheOpen.{TypedStmt-F}
 use Rattle.typed_program.specs.declared.stmt.TypedStmt.TheViews.{roll-TypedStmt, roll-TypedCatch}
 use Rattle.typed_program.specs.declared.stmt.TypedStmt.TheFolds.{fold-TypedCatch, fold-roll-TypedStmt, fold-roll-TypedCatch, map-TypedStmt}
-use Rattle.apex_meaning.specs.Runs.{Setting, site_of}
-use Rattle.apex_meaning.specs.Statements.{insert_these, records_of}
-use Rattle.apex_meaning.specs.States.{Res, charge, set_local}
-use Rattle.apex_meaning.specs.Values.{null}
-use Rattle.language_meaning.specs.Exceptions.{Clause, Kind, catching, caught_by, clause_for, if_takes, kind_of, takes_form, throw as thrown}
-use Rattle.language_meaning.specs.Meanings.{Again, Do, all_do, dropped, looping, finally, test}
-use Rattle.language_meaning.specs.Statements as D
+use Rattle.request_states.specs.Runs.{Setting, site_of}
+use Rattle.request_states.specs.Statements.{insert_these, records_of}
+use Rattle.request_states.specs.States.{Res, charge, set_local}
+use Rattle.request_states.specs.Values.{null}
+use Rattle.apex_meaning.specs.Exceptions.{Clause, Kind, catching, caught_by, clause_for, if_takes, kind_of, takes_form, throw as thrown}
+use Rattle.apex_meaning.specs.Meanings.{Again, Do, all_do, dropped, looping, finally, test}
+use Rattle.apex_meaning.specs.Statements as D
 use Rattle.language_samples.proofs.Known.{Names, ExprOf, said}
 
 abbrev pub clause_run : Setting → Again → Names → TypedCatch → Clause

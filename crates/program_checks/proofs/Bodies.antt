@@ -1,6 +1,6 @@
 -- The bodies of classes: the initial values of fields and statics, methods and constructors.
 use Rattle.std.proofs.Common.{ℕ, zero, suc, ◌+◌, ◌≤◌, Bool, true, false, List, [], ◌∷◌, ◌++◌, length, replicate, Option, None, Some, refl, length-append, arith}
-use Rattle.language_meaning.specs.Classes.{and_fields, field_place, implied_of, class_at, most, no_starts, own_starts, Starts, starts, starts_by, starts_within}
+use Rattle.apex_meaning.specs.Classes.{and_fields, field_place, implied_of, class_at, most, no_starts, own_starts, Starts, starts, starts_by, starts_within}
 use Rattle.typed_program.specs.declared.expr.Constructor.{Constructor}
 use Rattle.typed_program.specs.declared.expr.Constructor.TheVariants as K
 use Rattle.typed_program.specs.declared.expr.TypedExpr.{TypedExpr}
@@ -11,9 +11,9 @@ use Rattle.typed_program.specs.declared.unit.ParentCall.{ParentCall}
 use Rattle.typed_program.specs.declared.unit.ParentCall.TheVariants as P
 use Rattle.typed_program.specs.declared.unit.TypedConstructor.{TypedConstructor}
 use Rattle.typed_program.specs.declared.unit.TypedField.{TypedField}
-use Rattle.program_code.specs.declared.code.Instr.TheVariants as I
-use Rattle.program_code.specs.Checked.{most_begun}
-use Rattle.program_code.specs.Code.{Instrs, expr_code, exprs_code, field_code, fields_code, static_code, statics_code, starts_code, construct_code, own_code, parent_code, constructor_code, method_code, block_code}
+use Rattle.stack_code.specs.declared.code.Instr.TheVariants as I
+use Rattle.stack_code.specs.Checked.{most_begun}
+use Rattle.stack_code.specs.Code.{Instrs, expr_code, exprs_code, field_code, fields_code, static_code, statics_code, starts_code, construct_code, own_code, parent_code, constructor_code, method_code, block_code}
 use Rattle.program_checks.proofs.Pieces.{Closed, closed_nil, closed_append, closed_cons, closed_one, closed_then, closed_pops, closed_map}
 use Rattle.program_checks.proofs.Expressions.{expr_closed}
 use Rattle.program_checks.proofs.Statements.{block_closed}

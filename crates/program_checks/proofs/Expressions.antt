@@ -1,10 +1,10 @@
 -- The code of every expression is a piece whose jumps stay within it.
 use Rattle.std.proofs.Common.{◌≡◌, ℕ, Bool, true, false, List, [], ◌∷◌, ◌++◌, map, replicate, refl, sym, ap, ◌∙◌, subst}
-use Rattle.apex_meaning.specs.Values.{cell_of, is_cell}
+use Rattle.request_states.specs.Values.{cell_of, is_cell}
 use Rattle.apex_rows.specs.declared.query.Cond.{Cond}
 use Rattle.apex_rows.specs.declared.query.Cond.TheVariants.{All}
 use Rattle.row_meaning.specs.Conds.{local_part}
-use Rattle.language_meaning.specs.Classes.{field_place}
+use Rattle.apex_meaning.specs.Classes.{field_place}
 use Rattle.typed_program.specs.declared.expr.Constant.{Constant}
 use Rattle.typed_program.specs.declared.expr.Constructor.{Constructor}
 use Rattle.typed_program.specs.declared.expr.Constructor.TheVariants as K
@@ -22,10 +22,10 @@ use Rattle.typed_program.specs.declared.expr.TypedBind.TheOpen.{TypedExpr-F, Typ
 use Rattle.typed_program.specs.declared.expr.TypedBind.TheViews.{roll-TypedExpr, roll-TypedNew, roll-TypedPart, roll-TypedPlace, roll-TypedItem, roll-TypedOperand, roll-TypedPair}
 use Rattle.typed_program.specs.declared.expr.TypedBind.TheFolds.{fold-TypedBind, fold-TypedNew, fold-TypedPart, fold-TypedPlace, fold-TypedItem, fold-TypedOperand, fold-TypedPair, fold-roll-TypedExpr, fold-roll-TypedNew, fold-roll-TypedPart, fold-roll-TypedPlace, fold-roll-TypedItem, fold-roll-TypedOperand, fold-roll-TypedPair, ind-TypedExpr, map-TypedExpr, map-TypedNew, map-TypedPart, map-TypedPlace, map-TypedItem, map-TypedOperand, map-TypedPair}
 use Rattle.typed_program.specs.declared.program.Program.{Program}
-use Rattle.program_code.specs.declared.code.Instr.{Instr}
-use Rattle.program_code.specs.declared.code.Instr.TheVariants as I
-use Rattle.program_code.specs.declared.code.Slot.TheVariants as S
-use Rattle.program_code.specs.Code.{Instrs, PlaceCode, unbuilt, joined, constant_code, call_code, new_code, pairs_code, count_if, bind_step, expr_step, new_step, part_step, place_step, item_step, operand_step, pair_step, expr_code}
+use Rattle.stack_code.specs.declared.code.Instr.{Instr}
+use Rattle.stack_code.specs.declared.code.Instr.TheVariants as I
+use Rattle.stack_code.specs.declared.code.Slot.TheVariants as S
+use Rattle.stack_code.specs.Code.{Instrs, PlaceCode, unbuilt, joined, constant_code, call_code, new_code, pairs_code, count_if, bind_step, expr_step, new_step, part_step, place_step, item_step, operand_step, pair_step, expr_code}
 use Rattle.program_checks.proofs.Pieces.{Fine, Closed, closed_same, closed_nil, closed_append, closed_cons, closed_one, closed_then, closed_pops, closed_joined}
 use Rattle.program_checks.proofs.Forms.{operator_closed, choice_closed}
 

@@ -4,11 +4,11 @@ use Rattle.std.proofs.lemmas.List.Elements.{All-nil, All-cons}
 use Rattle.typed_program.specs.declared.expr.Conversion.{Conversion}
 use Rattle.typed_program.specs.declared.expr.TypedOp.{TypedOp}
 use Rattle.typed_program.specs.declared.expr.TypedOp.TheVariants as Op
-use Rattle.program_code.specs.declared.code.Instr.{Instr}
-use Rattle.program_code.specs.declared.code.Instr.TheVariants as I
-use Rattle.program_code.specs.declared.image.Clause.{Clause}
-use Rattle.program_code.specs.Checked.{ChargesAt, Within, FineAt}
-use Rattle.program_code.specs.Code.{Instrs, ClauseCode, operator_code, choice_code, turn_code, loop_code, each_code, finally_code, clauses_length, clauses_code, clauses_from, catch_code}
+use Rattle.stack_code.specs.declared.code.Instr.{Instr}
+use Rattle.stack_code.specs.declared.code.Instr.TheVariants as I
+use Rattle.stack_code.specs.declared.image.Clause.{Clause}
+use Rattle.stack_code.specs.Checked.{ChargesAt, Within, FineAt}
+use Rattle.stack_code.specs.Code.{Instrs, ClauseCode, operator_code, choice_code, turn_code, loop_code, each_code, finally_code, clauses_length, clauses_code, clauses_from, catch_code}
 use Rattle.program_checks.proofs.Pieces.{At, at_head, at_tail, Fine, Closed, first, next, closed_nil, closed_then, charges}
 
 module _ (b : Bool) where

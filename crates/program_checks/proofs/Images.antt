@@ -1,16 +1,16 @@
 -- The image of every program is checked.
 use Rattle.std.proofs.Common.{◌≡◌, ℕ, zero, suc, ◌<◌, ◌≤◌, true, false, List, [], ◌∷◌, length, map, slice_get, All, Option, None, Some, Result, Ok, Err, refl, sym, ap, subst, arith}
 use Rattle.std.proofs.lemmas.List.Elements.{All-nil, All-cons}
-use Rattle.language_meaning.specs.Classes.{chain_within, class_at, linked, most, parent_of}
+use Rattle.apex_meaning.specs.Classes.{chain_within, class_at, linked, most, parent_of}
 use Rattle.type_names.specs.declared.fault.TreeFault.{TreeFault}
 use Rattle.typed_program.specs.declared.program.Program.{Program}
 use Rattle.typed_program.specs.declared.stmt.TypedStmt.{TypedStmt}
 use Rattle.typed_program.specs.declared.unit.TypedClass.{TypedClass}
 use Rattle.typed_program.specs.declared.unit.TypedConstructor.{TypedConstructor}
 use Rattle.typed_program.specs.declared.unit.TypedMethod.{TypedMethod}
-use Rattle.program_code.specs.Checked.{IsFineCode, IsFineBlock, IsFineClass, IsChecked}
-use Rattle.program_code.specs.Code.{fields_code, statics_code, method_code, constructor_code, block_code}
-use Rattle.program_code.specs.Images.{code, body_code, class_code, classes_from, block_of, image_of}
+use Rattle.stack_code.specs.Checked.{IsFineCode, IsFineBlock, IsFineClass, IsChecked}
+use Rattle.stack_code.specs.Code.{fields_code, statics_code, method_code, constructor_code, block_code}
+use Rattle.stack_code.specs.Images.{code, body_code, class_code, classes_from, block_of, image_of}
 use Rattle.program_checks.proofs.Loops.{below_length}
 use Rattle.program_checks.proofs.Pieces.{closed_fine}
 use Rattle.program_checks.proofs.Statements.{block_closed}

@@ -3,8 +3,8 @@ use Rattle.std.proofs.Common.{◌≡◌, ℕ, ◌+◌, ◌<◌, ◌≤◌, zero,
 use Rattle.std.proofs.lemmas.Bool.{cases_lt}
 use Rattle.std.proofs.lemmas.List.Elements.{All-more, All-get_or}
 use Rattle.std.proofs.lemmas.Option.{slice_get-get_or}
-use Rattle.program_code.specs.declared.code.Instr.{Instr}
-use Rattle.program_code.specs.Checked.{FineAt, IsFine}
+use Rattle.stack_code.specs.declared.code.Instr.{Instr}
+use Rattle.stack_code.specs.Checked.{FineAt, IsFine}
 
 -- ---- what holds of each element
 

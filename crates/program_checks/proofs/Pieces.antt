@@ -1,9 +1,9 @@
 -- Pieces of code whose jumps stay within them.
 use Rattle.std.proofs.Common.{◌≡◌, ℕ, zero, suc, ◌+◌, ◌≤◌, Bool, List, [], ◌∷◌, ◌++◌, length, map, replicate, slice_get, IsTrue, Some, refl, sym, subst, length-append, arith}
-use Rattle.program_code.specs.declared.code.Instr.{Instr}
-use Rattle.program_code.specs.declared.code.Instr.TheVariants as I
-use Rattle.program_code.specs.Checked.{charges_in, is_charging, ChargesAt, FineAt, IsFine}
-use Rattle.program_code.specs.Code.{joined, Instrs}
+use Rattle.stack_code.specs.declared.code.Instr.{Instr}
+use Rattle.stack_code.specs.declared.code.Instr.TheVariants as I
+use Rattle.stack_code.specs.Checked.{charges_in, is_charging, ChargesAt, FineAt, IsFine}
+use Rattle.stack_code.specs.Code.{joined, Instrs}
 
 -- ---- a piece that stands in a code at a place
 

@@ -12,9 +12,9 @@ use Rattle.typed_program.specs.declared.stmt.TypedStmt.{TypedStmt}
 use Rattle.typed_program.specs.declared.stmt.TypedStmt.TheOpen.{TypedStmt-F, TypedCatch-F}
 use Rattle.typed_program.specs.declared.stmt.TypedStmt.TheViews.{roll-TypedStmt, roll-TypedCatch}
 use Rattle.typed_program.specs.declared.stmt.TypedStmt.TheFolds.{fold-TypedCatch, fold-roll-TypedStmt, fold-roll-TypedCatch, ind-TypedStmt, map-TypedStmt, map-TypedCatch}
-use Rattle.program_code.specs.declared.code.Instr.{Instr}
-use Rattle.program_code.specs.declared.code.Instr.TheVariants as I
-use Rattle.program_code.specs.Code.{Instrs, ClauseCode, unbuilt, joined, expr_code, value_code, locals_code, effect_code, effect_or, condition_code, begin_code, choice_code, loop_code, each_code, catch_code, stmt_step, catch_step, stmt_code, block_code}
+use Rattle.stack_code.specs.declared.code.Instr.{Instr}
+use Rattle.stack_code.specs.declared.code.Instr.TheVariants as I
+use Rattle.stack_code.specs.Code.{Instrs, ClauseCode, unbuilt, joined, expr_code, value_code, locals_code, effect_code, effect_or, condition_code, begin_code, choice_code, loop_code, each_code, catch_code, stmt_step, catch_step, stmt_code, block_code}
 use Rattle.program_checks.proofs.Pieces.{Closed, Plain, closed_same, closed_nil, closed_append, closed_cons, closed_one, closed_then, closed_joined, closed_map}
 use Rattle.program_checks.proofs.Forms.{choice_closed, loop_closed, do_closed, each_closed, AllClosed, catch_closed, finally_closed}
 use Rattle.program_checks.proofs.Expressions.{expr_closed}

@@ -1,10 +1,10 @@
 // The check of an image.
 
 ghost use Rattle.std.specs.Prelude.{◌≡◌, ◌<◌, ◌≤◌, ◌+◌, ◌-◌, ◌↔◌, All, length, IsTrue};
-ghost use Rattle.program_code.specs.Checked.{ChargesAt, FineAt, IsChecked, IsFine, IsFineBlock, IsFineClass, IsFineCode, Within};
-ghost use Rattle.program_code.specs.Checked as spec;
+ghost use Rattle.stack_code.specs.Checked.{ChargesAt, FineAt, IsChecked, IsFine, IsFineBlock, IsFineClass, IsFineCode, Within};
+ghost use Rattle.stack_code.specs.Checked as spec;
 
-use program_code::{ClassCode, Clause, Code, Image, Instr};
+use stack_code::{ClassCode, Clause, Code, Image, Instr};
 
 /// True exactly where each jump of the image stays within its code, what leads back charges a step, and its classes have few
 /// ancestors, which are classes of it. It takes no memory.

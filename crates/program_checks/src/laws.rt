@@ -1,7 +1,7 @@
 // Laws about images.
 
-ghost use Rattle.program_code.specs.Checked.{IsChecked};
-ghost use Rattle.program_code.specs.Images.{image_of};
+ghost use Rattle.stack_code.specs.Checked.{IsChecked};
+ghost use Rattle.stack_code.specs.Images.{image_of};
 ghost use Rattle.typed_program.specs.declared.program.Program.{Program};
 
 /// The image of every program is checked.

@@ -1,19 +1,19 @@
 -- What stands before a constructor's statements, where it isn't written.
 use Rattle.std.proofs.Common.{◌≡◌, ℕ, ◌+◌, List, ◌∷◌, drop, refl}
 use Rattle.activations.specs.declared.here.Here.{Here}
-use Rattle.apex_meaning.specs.Runs.{Setting, site_of}
-use Rattle.apex_meaning.specs.States.{State, Res}
-use Rattle.language_meaning.specs.Classes.{Starts}
-use Rattle.language_meaning.specs.Meanings.{Again}
-use Rattle.language_meaning.specs.Preparing.{started}
+use Rattle.request_states.specs.Runs.{Setting, site_of}
+use Rattle.request_states.specs.States.{State, Res}
+use Rattle.apex_meaning.specs.Classes.{Starts}
+use Rattle.apex_meaning.specs.Meanings.{Again}
+use Rattle.apex_meaning.specs.Preparing.{started}
 use Rattle.save_meaning.specs.Results.{Holds}
 use Rattle.save_meaning.proofs.Holding.{weaken, weaken_end}
 use Rattle.tenant_trails.specs.Runs as Trail
 use Rattle.txn_heap.specs.declared.thing.Value.{Value}
-use Rattle.program_code.specs.Code.{Instrs, starts_code}
-use Rattle.program_code.specs.Machine.{instrs_at}
-use Rattle.program_code.specs.declared.code.Instr.TheVariants as I
-use Rattle.program_code.specs.declared.image.Image.{Image}
+use Rattle.stack_code.specs.Code.{Instrs, starts_code}
+use Rattle.stack_code.specs.Machine.{instrs_at}
+use Rattle.stack_code.specs.declared.code.Instr.TheVariants as I
+use Rattle.stack_code.specs.declared.image.Image.{Image}
 use Rattle.program_simulation.proofs.Classes.{IsImage}
 use Rattle.program_simulation.proofs.Frames.{Ground, ground, Follows, stopped_gone, at_ready}
 use Rattle.program_simulation.proofs.Preparing as Preparing

@@ -4,16 +4,16 @@ use Rattle.std.specs.Prelude.{slice_get}
 use Rattle.std.proofs.lemmas.List.{length-map}
 use Rattle.activations.specs.declared.abrupt.Abrupt.{Abrupt}
 use Rattle.activations.specs.declared.here.Here.{Here}
-use Rattle.apex_meaning.specs.Runs.{Setting, site_of}
-use Rattle.apex_meaning.specs.States.{State, Res, charge}
+use Rattle.request_states.specs.Runs.{Setting, site_of}
+use Rattle.request_states.specs.States.{State, Res, charge}
 use Rattle.apex_num.specs.declared.kind.LimitKind.TheVariants as K
-use Rattle.language_meaning.specs.Bodies as D
-use Rattle.language_meaning.specs.Classes.{code_of, constructor_at, fields_at, field_place, no_starts, and_fields, own_starts, starts, Starts}
-use Rattle.language_meaning.specs.Expressions.{value_of}
-use Rattle.language_meaning.specs.Meanings.{Again, Body, Method, Constructor, Fields, Statics, Do, called, dropped}
-use Rattle.language_meaning.specs.Places as Places
-use Rattle.language_meaning.specs.Preparing.{constructed, set_message, started, with_statics}
-use Rattle.language_meaning.specs.Statements.{does_all}
+use Rattle.apex_meaning.specs.Bodies as D
+use Rattle.apex_meaning.specs.Classes.{code_of, constructor_at, fields_at, field_place, no_starts, and_fields, own_starts, starts, Starts}
+use Rattle.apex_meaning.specs.Expressions.{value_of}
+use Rattle.apex_meaning.specs.Meanings.{Again, Body, Method, Constructor, Fields, Statics, Do, called, dropped}
+use Rattle.apex_meaning.specs.Places as Places
+use Rattle.apex_meaning.specs.Preparing.{constructed, set_message, started, with_statics}
+use Rattle.apex_meaning.specs.Statements.{does_all}
 use Rattle.save_meaning.specs.Results.{Gives, Stops, Stop, bind, Holds}
 use Rattle.save_meaning.specs.Sites.{Site}
 use Rattle.save_meaning.specs.declared.run.TxnState.{TxnState}
@@ -32,16 +32,16 @@ use Rattle.typed_program.specs.declared.unit.ParentCall.{ParentCall}
 use Rattle.typed_program.specs.declared.unit.ParentCall.TheVariants as P
 use Rattle.typed_program.specs.declared.unit.TypedConstructor.{TypedConstructor}
 use Rattle.typed_program.specs.declared.unit.TypedField.{TypedField}
-use Rattle.program_code.specs.Calls as Calls
-use Rattle.program_code.specs.Code as Code
-use Rattle.program_code.specs.Code.{Instrs}
-use Rattle.program_code.specs.Machine.{instrs_at, next}
-use Rattle.program_code.specs.Things as Things
-use Rattle.program_code.specs.declared.code.Instr.{Instr}
-use Rattle.program_code.specs.declared.code.Instr.TheVariants as I
-use Rattle.program_code.specs.declared.image.Image.{Image}
-use Rattle.program_code.specs.declared.state.After.TheVariants as A
-use Rattle.program_code.specs.declared.state.BodyAt.TheVariants as B
+use Rattle.stack_code.specs.Calls as Calls
+use Rattle.stack_code.specs.Code as Code
+use Rattle.stack_code.specs.Code.{Instrs}
+use Rattle.stack_code.specs.Machine.{instrs_at, next}
+use Rattle.stack_code.specs.Things as Things
+use Rattle.stack_code.specs.declared.code.Instr.{Instr}
+use Rattle.stack_code.specs.declared.code.Instr.TheVariants as I
+use Rattle.stack_code.specs.declared.image.Image.{Image}
+use Rattle.stack_code.specs.declared.state.After.TheVariants as A
+use Rattle.stack_code.specs.declared.state.BodyAt.TheVariants as B
 use Rattle.program_means.proofs.Begins as Begins
 use Rattle.program_means.proofs.Statements.{stmts_at, value_then, does_then, step_then}
 use Rattle.program_simulation.proofs.Classes.{IsImage, constructed_code}

@@ -4,11 +4,11 @@ use Rattle.activations.specs.declared.abrupt.Abrupt.{Abrupt}
 use Rattle.activations.specs.declared.abrupt.Abrupt.TheVariants.{Throws, Returns, Breaks, Continues}
 use Rattle.activations.specs.declared.abrupt.Raised.{Raised}
 use Rattle.activations.specs.declared.abrupt.Raised.TheVariants.{Platform, Made}
-use Rattle.apex_meaning.specs.States.{State, Res, set_local, with_heap}
+use Rattle.request_states.specs.States.{State, Res, set_local, with_heap}
 use Rattle.apex_num.specs.declared.cell.Cell.TheVariants as C
-use Rattle.language_meaning.specs.Exceptions as E
-use Rattle.language_meaning.specs.Exceptions.{Kind, BuiltIn, Declared, Nothing}
-use Rattle.language_meaning.specs.Meanings.{Do}
+use Rattle.apex_meaning.specs.Exceptions as E
+use Rattle.apex_meaning.specs.Exceptions.{Kind, BuiltIn, Declared, Nothing}
+use Rattle.apex_meaning.specs.Meanings.{Do}
 use Rattle.platform_errors.specs.Messages.{class, message}
 use Rattle.save_meaning.specs.Results.{Gives, Stops, Leaves, Closes}
 use Rattle.save_meaning.specs.Sites.{Site}
@@ -22,17 +22,17 @@ use Rattle.txn_heap.specs.declared.thing.Thing.TheVariants as Thing
 use Rattle.txn_heap.specs.declared.thing.Value.{Value}
 use Rattle.txn_heap.specs.declared.thing.Value.TheVariants.{Object}
 use Rattle.typed_program.specs.declared.program.Program.{Program}
-use Rattle.program_code.specs.Code as Code
-use Rattle.program_code.specs.Code.{Instrs, ClauseCode, catch_code, clauses_code, clauses_from, clauses_length}
-use Rattle.program_code.specs.Machine.{Goes, instrs_at, in_mode}
-use Rattle.program_code.specs.Steps as Steps
-use Rattle.program_code.specs.Things as Things
-use Rattle.program_code.specs.declared.code.Instr.TheVariants as I
-use Rattle.program_code.specs.declared.image.Clause.{Clause}
-use Rattle.program_code.specs.declared.image.Image.{Image}
-use Rattle.program_code.specs.declared.state.Config.{Config}
-use Rattle.program_code.specs.declared.state.Handler.TheVariants as H
-use Rattle.program_code.specs.declared.state.Mode.TheVariants as M
+use Rattle.stack_code.specs.Code as Code
+use Rattle.stack_code.specs.Code.{Instrs, ClauseCode, catch_code, clauses_code, clauses_from, clauses_length}
+use Rattle.stack_code.specs.Machine.{Goes, instrs_at, in_mode}
+use Rattle.stack_code.specs.Steps as Steps
+use Rattle.stack_code.specs.Things as Things
+use Rattle.stack_code.specs.declared.code.Instr.TheVariants as I
+use Rattle.stack_code.specs.declared.image.Clause.{Clause}
+use Rattle.stack_code.specs.declared.image.Image.{Image}
+use Rattle.stack_code.specs.declared.state.Config.{Config}
+use Rattle.stack_code.specs.declared.state.Handler.TheVariants as H
+use Rattle.stack_code.specs.declared.state.Mode.TheVariants as M
 use Rattle.program_means.proofs.Lists.{catch_is, catch_clauses, clause_is, clauses_next, clauses_over}
 use Rattle.program_means.proofs.Open as Open
 use Rattle.program_simulation.proofs.Classes.{IsImage}

@@ -5,19 +5,19 @@ use Rattle.std.proofs.lemmas.Option.{slice_get-map}
 use Rattle.activations.specs.declared.abrupt.Abrupt.{Abrupt}
 use Rattle.activations.specs.declared.abrupt.Abrupt.TheVariants.{Throws, Returns, Breaks, Continues}
 use Rattle.activations.specs.declared.abrupt.Raised.{Raised}
-use Rattle.apex_meaning.specs.Refusals.{no_writes}
-use Rattle.apex_meaning.specs.Runs.{Setting, site_of, block_at, stmts_of, stmts_or, ended, whole, first_state}
-use Rattle.apex_meaning.specs.States.{State, Res}
-use Rattle.apex_meaning.specs.Values.{null}
+use Rattle.request_states.specs.Refusals.{no_writes}
+use Rattle.request_states.specs.Runs.{Setting, site_of, block_at, stmts_of, stmts_or, ended, whole, first_state}
+use Rattle.request_states.specs.States.{State, Res}
+use Rattle.request_states.specs.Values.{null}
 use Rattle.apex_requests.specs.declared.reply.Outcome.TheVariants as O
 use Rattle.apex_rows.specs.declared.query.Answer.{Answer}
-use Rattle.language_meaning.specs.Bodies.{rounds, enough}
-use Rattle.language_meaning.specs.Classes.{class_at, name_or}
-use Rattle.language_meaning.specs.Exceptions as E
-use Rattle.language_meaning.specs.Exceptions.{Kind, BuiltIn, Declared, Nothing, kind_of, message_told}
-use Rattle.language_meaning.specs.Expressions.{value_of}
-use Rattle.language_meaning.specs.Meanings.{Again}
-use Rattle.language_meaning.specs.Runs.{block_does, block_run, left_by, names_of, run_of}
+use Rattle.apex_meaning.specs.Bodies.{rounds, enough}
+use Rattle.apex_meaning.specs.Classes.{class_at, name_or}
+use Rattle.apex_meaning.specs.Exceptions as E
+use Rattle.apex_meaning.specs.Exceptions.{Kind, BuiltIn, Declared, Nothing, kind_of, message_told}
+use Rattle.apex_meaning.specs.Expressions.{value_of}
+use Rattle.apex_meaning.specs.Meanings.{Again}
+use Rattle.apex_meaning.specs.Runs.{block_does, block_run, left_by, names_of, run_of}
 use Rattle.limit_meter.proofs.Counted.{counts_none}
 use Rattle.save_meaning.specs.Results.{Halts, Needs, Unfinished, Unbuilt, Leaves, Closes, Gives, Stops, Holds}
 use Rattle.save_meaning.specs.Sites.{Site}
@@ -30,17 +30,17 @@ use Rattle.typed_program.specs.declared.expr.TypedExpr.{TypedExpr}
 use Rattle.typed_program.specs.declared.program.Program.{Program}
 use Rattle.typed_program.specs.declared.stmt.TypedStmt.{TypedStmt}
 use Rattle.typed_program.specs.declared.unit.TypedClass.{TypedClass}
-use Rattle.program_code.specs.Checked.{IsChecked}
-use Rattle.program_code.specs.Code as Code
-use Rattle.program_code.specs.Images as Images
-use Rattle.program_code.specs.Images.{image_of}
-use Rattle.program_code.specs.Machine.{instrs_at, reply_of, some_code}
-use Rattle.program_code.specs.Means.{ImagesMean, is_there, block_in}
-use Rattle.program_code.specs.Runs.{start}
-use Rattle.program_code.specs.Steps.{act}
-use Rattle.program_code.specs.Things as Things
-use Rattle.program_code.specs.declared.image.Image.{Image}
-use Rattle.program_code.specs.declared.state.BodyAt.TheVariants as B
+use Rattle.stack_code.specs.Checked.{IsChecked}
+use Rattle.stack_code.specs.Code as Code
+use Rattle.stack_code.specs.Images as Images
+use Rattle.stack_code.specs.Images.{image_of}
+use Rattle.stack_code.specs.Machine.{instrs_at, reply_of, some_code}
+use Rattle.stack_code.specs.Means.{ImagesMean, is_there, block_in}
+use Rattle.stack_code.specs.Runs.{start}
+use Rattle.stack_code.specs.Steps.{act}
+use Rattle.stack_code.specs.Things as Things
+use Rattle.stack_code.specs.declared.image.Image.{Image}
+use Rattle.stack_code.specs.declared.state.BodyAt.TheVariants as B
 use Rattle.program_checks.proofs.Images.{image_checked}
 use Rattle.language_laws.proofs.Ends.{rounds_suffice}
 use Rattle.program_means.proofs.Rounds.{follows_rounds}

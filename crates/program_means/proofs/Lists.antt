@@ -2,9 +2,9 @@
 use Rattle.std.proofs.Common.{◌≡◌, ℕ, suc, ◌+◌, ◌-◌, List, [], ◌∷◌, ◌++◌, length, drop, Some, refl, sym, ap, ◌∙◌, subst, arith, add-one, append_assoc, length-append, length-drop}
 use Rattle.std.proofs.lemmas.List.{drop-drop}
 use Rattle.std.proofs.Math.Seq.{drop-append_seam, drop-append-add}
-use Rattle.program_code.specs.declared.code.Instr.TheVariants as I
+use Rattle.stack_code.specs.declared.code.Instr.TheVariants as I
 use Rattle.program_simulation.proofs.Fetch.{next}
-use Rattle.program_code.specs.Code.{Instrs, turn_code, loop_code, each_code, choice_code, finally_code, catch_code, clauses_code, clauses_from, clauses_length, ClauseCode}
+use Rattle.stack_code.specs.Code.{Instrs, turn_code, loop_code, each_code, choice_code, finally_code, catch_code, clauses_code, clauses_from, clauses_length, ClauseCode}
 use Rattle.typed_program.specs.declared.expr.Conversion.{Conversion}
 
 module _ {A : Type 0} where

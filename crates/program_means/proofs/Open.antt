@@ -4,10 +4,10 @@ use Rattle.std.specs.Prelude.{cond}
 use Rattle.activations.specs.declared.abrupt.Abrupt.{Abrupt}
 use Rattle.activations.specs.declared.abrupt.Abrupt.TheVariants.{Throws, Returns, Breaks, Continues}
 use Rattle.activations.specs.declared.abrupt.Raised.TheVariants.{Platform}
-use Rattle.apex_meaning.specs.States.{State, Res, charge, keeps, set_local}
+use Rattle.request_states.specs.States.{State, Res, charge, keeps, set_local}
 use Rattle.apex_num.specs.declared.kind.LimitKind.TheVariants as K
-use Rattle.language_meaning.specs.Meanings.{Do, Test, calc, finally, looping}
-use Rattle.language_meaning.specs.Statements.{each, each_of, items_of}
+use Rattle.apex_meaning.specs.Meanings.{Do, Test, calc, finally, looping}
+use Rattle.apex_meaning.specs.Statements.{each, each_of, items_of}
 use Rattle.save_meaning.specs.Results.{Gives, Stops, Stop, Leaves, Closes, bind, Holds}
 use Rattle.save_meaning.specs.Sites.{Site}
 use Rattle.save_meaning.specs.declared.run.TxnState.{TxnState}
@@ -17,18 +17,18 @@ use Rattle.txn_heap.specs.declared.thing.Value.{Value}
 use Rattle.typed_program.specs.declared.expr.Conversion.{Conversion}
 use Rattle.value_operators.specs.Operators.{Calc, converted}
 use Rattle.value_operators.specs.declared.calculated.Calculated.TheVariants.{Val, Fails}
-use Rattle.program_code.specs.Code.{Instrs, loop_code, each_code, finally_code}
-use Rattle.program_code.specs.Machine.{Goes, instrs_at, in_mode, on_calc, next, with_local}
-use Rattle.program_code.specs.declared.state.Config.{Config}
+use Rattle.stack_code.specs.Code.{Instrs, loop_code, each_code, finally_code}
+use Rattle.stack_code.specs.Machine.{Goes, instrs_at, in_mode, on_calc, next, with_local}
+use Rattle.stack_code.specs.declared.state.Config.{Config}
 use Rattle.limit_meter.specs.Charges.{fits}
 use Rattle.save_meaning.specs.Transactions as Save
-use Rattle.program_code.specs.Steps as Steps
-use Rattle.program_code.specs.declared.code.Instr.{Instr}
-use Rattle.program_code.specs.declared.code.Instr.TheVariants as I
-use Rattle.program_code.specs.declared.image.Image.{Image}
-use Rattle.program_code.specs.declared.state.Handler.{Handler}
-use Rattle.program_code.specs.declared.state.Handler.TheVariants as H
-use Rattle.program_code.specs.declared.state.Mode.TheVariants as M
+use Rattle.stack_code.specs.Steps as Steps
+use Rattle.stack_code.specs.declared.code.Instr.{Instr}
+use Rattle.stack_code.specs.declared.code.Instr.TheVariants as I
+use Rattle.stack_code.specs.declared.image.Image.{Image}
+use Rattle.stack_code.specs.declared.state.Handler.{Handler}
+use Rattle.stack_code.specs.declared.state.Handler.TheVariants as H
+use Rattle.stack_code.specs.declared.state.Mode.TheVariants as M
 use Rattle.program_means.proofs.Lists.{back_to, turn_to, turn_again, turn_out, loop_to, loop_is, loop_out, loop_length, items_to, each_is, each_out, each_end, each_length, finally_is, finally_last}
 use Rattle.program_simulation.proofs.Simulates as T
 use Rattle.program_simulation.proofs.Fetch.{fetch, past}

@@ -3,28 +3,28 @@ use Rattle.std.proofs.Common.{◌≡◌, ℕ, zero, suc, List, [], ◌∷◌, re
 use Rattle.activations.specs.declared.abrupt.Abrupt.TheVariants.{Throws, Returns, Breaks, Continues}
 use Rattle.activations.specs.declared.abrupt.Raised.{Raised}
 use Rattle.activations.specs.declared.here.Here.{Here}
-use Rattle.apex_meaning.specs.Runs.{Setting, site_of}
-use Rattle.apex_meaning.specs.States.{State, Res}
-use Rattle.apex_meaning.specs.Values.{null}
-use Rattle.language_meaning.specs.Bodies as D
-use Rattle.language_meaning.specs.Classes.{mode_or}
-use Rattle.language_meaning.specs.Expressions.{value_of}
-use Rattle.language_meaning.specs.Meanings.{Again, Body, Method, Constructor, Fields, Statics, back, returned}
+use Rattle.request_states.specs.Runs.{Setting, site_of}
+use Rattle.request_states.specs.States.{State, Res}
+use Rattle.request_states.specs.Values.{null}
+use Rattle.apex_meaning.specs.Bodies as D
+use Rattle.apex_meaning.specs.Classes.{mode_or}
+use Rattle.apex_meaning.specs.Expressions.{value_of}
+use Rattle.apex_meaning.specs.Meanings.{Again, Body, Method, Constructor, Fields, Statics, back, returned}
 use Rattle.save_meaning.specs.Results.{Halts, Needs, Unfinished, Unbuilt, Gives, Stops, Leaves, Closes, Holds}
 use Rattle.save_meaning.specs.Sites.{Site}
 use Rattle.save_meaning.specs.declared.run.TxnState.{TxnState}
 use Rattle.tenant_trails.specs.Runs as Trail
 use Rattle.txn_heap.specs.declared.thing.Value.{Value}
 use Rattle.typed_program.specs.declared.expr.TypedExpr.{TypedExpr}
-use Rattle.program_code.specs.Calls as Calls
-use Rattle.program_code.specs.Code as Code
-use Rattle.program_code.specs.Code.{Instrs}
-use Rattle.program_code.specs.Machine.{instrs_at}
-use Rattle.program_code.specs.declared.image.Image.{Image}
-use Rattle.program_code.specs.declared.state.After.{After}
-use Rattle.program_code.specs.declared.state.After.TheVariants as A
-use Rattle.program_code.specs.declared.state.BodyAt.{BodyAt}
-use Rattle.program_code.specs.declared.state.Mode.TheVariants as M
+use Rattle.stack_code.specs.Calls as Calls
+use Rattle.stack_code.specs.Code as Code
+use Rattle.stack_code.specs.Code.{Instrs}
+use Rattle.stack_code.specs.Machine.{instrs_at}
+use Rattle.stack_code.specs.declared.image.Image.{Image}
+use Rattle.stack_code.specs.declared.state.After.{After}
+use Rattle.stack_code.specs.declared.state.After.TheVariants as A
+use Rattle.stack_code.specs.declared.state.BodyAt.{BodyAt}
+use Rattle.stack_code.specs.declared.state.Mode.TheVariants as M
 use Rattle.program_means.proofs.Bodies.{body_does, code_in}
 use Rattle.program_means.proofs.Open.{round_at}
 use Rattle.program_simulation.proofs.Classes.{IsImage}

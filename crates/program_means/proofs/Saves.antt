@@ -2,16 +2,16 @@
 use Rattle.std.proofs.Common.{◌≡◌, ◌≢◌, ℕ, ◌+◌, ◌≤◌, Bool, true, false, List, [], ◌∷◌, drop, Option, Some, None, refl, sym, ap, ◌∙◌, subst, arith}
 use Rattle.std.specs.Prelude.{map, slice_get, leb, slice_index, slice_set}
 use Rattle.std.proofs.lemmas.List.{get_or-set_other}
-use Rattle.apex_meaning.specs.Refusals.{no_writes}
-use Rattle.apex_meaning.specs.States as S
-use Rattle.apex_meaning.specs.States.{State, Res, keeps}
-use Rattle.apex_meaning.specs.Statements as D
+use Rattle.request_states.specs.Refusals.{no_writes}
+use Rattle.request_states.specs.States as S
+use Rattle.request_states.specs.States.{State, Res, keeps}
+use Rattle.request_states.specs.Statements as D
 use Rattle.apex_num.specs.declared.kind.LimitKind.{LimitKind}
 use Rattle.apex_num.specs.declared.kind.LimitKind.TheVariants as K
 use Rattle.apex_requests.specs.declared.request.SaveRow.{SaveRow}
 use Rattle.apex_requests.specs.declared.reply.Outcome.TheVariants as O
 use Rattle.apex_rows.specs.declared.query.Answer.{Answer}
-use Rattle.program_code.specs.Machine as Next
+use Rattle.stack_code.specs.Machine as Next
 use Rattle.apex_rows.specs.declared.row.Row.{Row}
 use Rattle.apex_schema.specs.declared.schema.Object.{Object}
 use Rattle.limit_meter.specs.Charges.{limit_of, count_of, with_count}
@@ -37,14 +37,14 @@ use Rattle.save_meaning.specs.declared.run.TxnState.{TxnState}
 use Rattle.tenant_trails.specs.Runs as Trail
 use Rattle.txn_heap.specs.declared.thing.Value.{Value}
 use Rattle.typed_program.specs.declared.stmt.Saved.{Saved}
-use Rattle.program_code.specs.Code.{Instrs}
-use Rattle.program_code.specs.Machine.{instrs_at, in_mode, reply_of, with_heap}
-use Rattle.program_code.specs.Runs.{drive, steps}
-use Rattle.program_code.specs.Steps as Steps
-use Rattle.program_code.specs.declared.code.Instr.TheVariants as I
-use Rattle.program_code.specs.declared.image.Image.{Image}
-use Rattle.program_code.specs.declared.state.Config.{Config}
-use Rattle.program_code.specs.declared.state.Mode.TheVariants as M
+use Rattle.stack_code.specs.Code.{Instrs}
+use Rattle.stack_code.specs.Machine.{instrs_at, in_mode, reply_of, with_heap}
+use Rattle.stack_code.specs.Runs.{drive, steps}
+use Rattle.stack_code.specs.Steps as Steps
+use Rattle.stack_code.specs.declared.code.Instr.TheVariants as I
+use Rattle.stack_code.specs.declared.image.Image.{Image}
+use Rattle.stack_code.specs.declared.state.Config.{Config}
+use Rattle.stack_code.specs.declared.state.Mode.TheVariants as M
 use Rattle.program_simulation.proofs.Simulates as T
 use Rattle.program_simulation.proofs.Simulates.{Around, config, world, Stands, calls_in, keeping, same_reply}
 

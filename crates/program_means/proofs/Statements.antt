@@ -4,18 +4,18 @@ use Rattle.std.specs.Prelude.{cond}
 use Rattle.std.proofs.Math.Seq.{drop-append_seam}
 use Rattle.activations.specs.declared.abrupt.Abrupt.{Abrupt}
 use Rattle.activations.specs.declared.abrupt.Abrupt.TheVariants.{Returns, Breaks, Continues}
-use Rattle.apex_meaning.specs.Runs.{Setting, site_of}
-use Rattle.apex_meaning.specs.Statements.{insert_these, records_of}
-use Rattle.apex_meaning.specs.States.{State, Res, charge, set_local, unbuilt}
-use Rattle.apex_meaning.specs.Values.{null}
+use Rattle.request_states.specs.Runs.{Setting, site_of}
+use Rattle.request_states.specs.Statements.{insert_these, records_of}
+use Rattle.request_states.specs.States.{State, Res, charge, set_local, unbuilt}
+use Rattle.request_states.specs.Values.{null}
 use Rattle.apex_num.specs.declared.cell.Cell.{Cell}
 use Rattle.apex_num.specs.declared.cell.Cell.TheVariants as C
 use Rattle.apex_num.specs.declared.kind.LimitKind.TheVariants as K
 use Rattle.apex_syntax.specs.declared.stmt.DmlOp.TheVariants as Dml
-use Rattle.language_meaning.specs.Exceptions as E
-use Rattle.language_meaning.specs.Expressions.{value_of}
-use Rattle.language_meaning.specs.Meanings.{Again, Do, Run, Test, all_do, known_truth, looping, test, truth_of}
-use Rattle.language_meaning.specs.Statements as D
+use Rattle.apex_meaning.specs.Exceptions as E
+use Rattle.apex_meaning.specs.Expressions.{value_of}
+use Rattle.apex_meaning.specs.Meanings.{Again, Do, Run, Test, all_do, known_truth, looping, test, truth_of}
+use Rattle.apex_meaning.specs.Statements as D
 use Rattle.save_meaning.specs.Results.{Gives, Stops, Stop, Leaves, bind, Holds}
 use Rattle.save_meaning.specs.Sites.{Site}
 use Rattle.save_meaning.specs.declared.run.TxnState.{TxnState}
@@ -36,12 +36,12 @@ use Rattle.typed_program.specs.declared.stmt.TypedStmt.TheFolds.{fold-TypedCatch
 use Rattle.typed_program.specs.declared.stmt.TypedStmt.TheOpen.{TypedCatch-F, TypedStmt-F}
 use Rattle.typed_program.specs.declared.stmt.TypedStmt.TheViews.{roll-TypedCatch, roll-TypedStmt}
 use Rattle.value_operators.specs.Operators.{truth}
-use Rattle.program_code.specs.Code as Code
-use Rattle.program_code.specs.Code.{Instrs, ClauseCode, catch_code, choice_code, each_code, finally_code, joined, loop_code}
-use Rattle.program_code.specs.Machine.{instrs_at, on_truth}
-use Rattle.program_code.specs.Steps as Steps
-use Rattle.program_code.specs.declared.code.Instr.TheVariants as I
-use Rattle.program_code.specs.declared.image.Image.{Image}
+use Rattle.stack_code.specs.Code as Code
+use Rattle.stack_code.specs.Code.{Instrs, ClauseCode, catch_code, choice_code, each_code, finally_code, joined, loop_code}
+use Rattle.stack_code.specs.Machine.{instrs_at, on_truth}
+use Rattle.stack_code.specs.Steps as Steps
+use Rattle.stack_code.specs.declared.code.Instr.TheVariants as I
+use Rattle.stack_code.specs.declared.image.Image.{Image}
 use Rattle.program_means.proofs.Clauses as Clauses
 use Rattle.program_means.proofs.Lists.{choice_is, choice_else, do_over, loop_is, loop_to, turn_to}
 use Rattle.program_means.proofs.Open as Open

@@ -4,11 +4,11 @@ use Rattle.apex_rows.specs.declared.query.Answer.{Answer}
 use Rattle.apex_rows.specs.declared.query.Question.{Question}
 use Rattle.save_meaning.specs.Sites.{Site}
 use Rattle.tenant_trails.specs.Runs as Trail
-use Rattle.program_code.specs.Machine.{Next, Goes, Asks, Over}
-use Rattle.program_code.specs.Runs.{over_at, answered, drive, steps, Ends}
-use Rattle.program_code.specs.Steps.{step, given}
-use Rattle.program_code.specs.declared.image.Image.{Image}
-use Rattle.program_code.specs.declared.state.Config.{Config}
+use Rattle.stack_code.specs.Machine.{Next, Goes, Asks, Over}
+use Rattle.stack_code.specs.Runs.{over_at, answered, drive, steps, Ends}
+use Rattle.stack_code.specs.Steps.{step, given}
+use Rattle.stack_code.specs.declared.image.Image.{Image}
+use Rattle.stack_code.specs.declared.state.Config.{Config}
 
 over_unique : (n m : ℕ) (o d e : Trail.Run) → over_at n o ≡ Some d → over_at m o ≡ Some e → d ≡ e
 over_unique zero zero o d e h k = cc

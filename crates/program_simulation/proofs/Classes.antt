@@ -3,21 +3,21 @@ use Rattle.std.proofs.Common.{◌≡◌, ℕ, zero, suc, ◌+◌, ◌*◌, ◌||
 use Rattle.std.specs.List.{list_any}
 use Rattle.std.proofs.lemmas.List.Folds.{list_any-append}
 use Rattle.std.proofs.lemmas.Bool.Decides.{eqb_tells}
-use Rattle.apex_meaning.specs.Runs.{stmts_of, stmts_or, block_at}
+use Rattle.request_states.specs.Runs.{stmts_of, stmts_or, block_at}
 use Rattle.type_names.specs.declared.fault.TreeFault.{TreeFault}
 use Rattle.std.specs.Prelude.{Result}
-use Rattle.language_meaning.specs.Classes.{class_at, chain, linked, chain_within, parent_of, is_a, is_or_names, interfaces_of, sharing_of, fields_at, fields_of, width, instance_fields, most, methods_of, method_at, nearest, nearest_to, target, code_or, code_of, Starts, and_fields, starts, starts_within, implied_of, own_starts, constructors_of, constructor_at}
-use Rattle.language_meaning.specs.Classes as Source
-use Rattle.program_code.specs.Calls.{chain_or, fits_or, sharing_or, statics_or, width_or, units_or, starts_or, table_or, row_or, row_of, place_in}
-use Rattle.program_code.specs.Calls as Calls
-use Rattle.program_code.specs.Code.{Instrs, block_code, constructor_code, fields_code, method_code, starts_code, statics_code}
-use Rattle.program_code.specs.Images.{image_of, class_code, classes_from, code, body_code, block_of, fits_of, targets_in, row_for}
-use Rattle.program_code.specs.Images.{method_at as place_of}
-use Rattle.program_code.specs.Machine.{class_code as class_in, of_class, some_code, instrs_of, instrs_at}
-use Rattle.program_code.specs.declared.image.ClassCode.{ClassCode}
-use Rattle.program_code.specs.declared.image.Image.{Image}
-use Rattle.program_code.specs.declared.image.MethodAt.{MethodAt}
-use Rattle.program_code.specs.declared.state.BodyAt.TheVariants as B
+use Rattle.apex_meaning.specs.Classes.{class_at, chain, linked, chain_within, parent_of, is_a, is_or_names, interfaces_of, sharing_of, fields_at, fields_of, width, instance_fields, most, methods_of, method_at, nearest, nearest_to, target, code_or, code_of, Starts, and_fields, starts, starts_within, implied_of, own_starts, constructors_of, constructor_at}
+use Rattle.apex_meaning.specs.Classes as Source
+use Rattle.stack_code.specs.Calls.{chain_or, fits_or, sharing_or, statics_or, width_or, units_or, starts_or, table_or, row_or, row_of, place_in}
+use Rattle.stack_code.specs.Calls as Calls
+use Rattle.stack_code.specs.Code.{Instrs, block_code, constructor_code, fields_code, method_code, starts_code, statics_code}
+use Rattle.stack_code.specs.Images.{image_of, class_code, classes_from, code, body_code, block_of, fits_of, targets_in, row_for}
+use Rattle.stack_code.specs.Images.{method_at as place_of}
+use Rattle.stack_code.specs.Machine.{class_code as class_in, of_class, some_code, instrs_of, instrs_at}
+use Rattle.stack_code.specs.declared.image.ClassCode.{ClassCode}
+use Rattle.stack_code.specs.declared.image.Image.{Image}
+use Rattle.stack_code.specs.declared.image.MethodAt.{MethodAt}
+use Rattle.stack_code.specs.declared.state.BodyAt.TheVariants as B
 use Rattle.typed_program.specs.declared.program.Program.{Program}
 use Rattle.typed_program.specs.declared.stmt.TypedStmt.{TypedStmt}
 use Rattle.typed_program.specs.declared.unit.TypedClass.{TypedClass}

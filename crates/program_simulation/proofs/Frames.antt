@@ -12,24 +12,24 @@ use Rattle.save_meaning.specs.Results.{Stop, Leaves, Closes, Gives, Stops, bind,
 use Rattle.save_meaning.specs.Transactions as Save
 use Rattle.save_meaning.specs.declared.run.TxnState.{TxnState}
 use Rattle.save_meaning.proofs.Holding.{bound}
-use Rattle.apex_meaning.specs.States.{State, Res, charge, keeps}
-use Rattle.apex_meaning.specs.Values.{null}
-use Rattle.language_meaning.specs.Meanings.{Again, Body, Method, Constructor, Fields, Statics, Do, Test, called, no_longer_open}
-use Rattle.program_code.specs.Calls.{activation, call}
-use Rattle.program_code.specs.Code.{loop_code}
-use Rattle.program_code.specs.Machine.{instrs_at}
-use Rattle.program_code.specs.Steps.{act}
-use Rattle.program_code.specs.declared.code.Instr.{Instr}
-use Rattle.program_code.specs.declared.image.Image.{Image}
-use Rattle.program_code.specs.declared.state.After.{After}
-use Rattle.program_code.specs.declared.state.After.TheVariants as A
-use Rattle.program_code.specs.declared.state.BodyAt.{BodyAt}
-use Rattle.program_code.specs.declared.state.BodyAt.TheVariants as B
-use Rattle.program_code.specs.declared.state.Config.{Config}
-use Rattle.program_code.specs.declared.state.Frame.{Frame}
-use Rattle.program_code.specs.declared.state.Mode.{Mode}
-use Rattle.program_code.specs.declared.state.Mode.TheVariants as M
-use Rattle.program_code.specs.declared.state.Waiting.{Waiting}
+use Rattle.request_states.specs.States.{State, Res, charge, keeps}
+use Rattle.request_states.specs.Values.{null}
+use Rattle.apex_meaning.specs.Meanings.{Again, Body, Method, Constructor, Fields, Statics, Do, Test, called, no_longer_open}
+use Rattle.stack_code.specs.Calls.{activation, call}
+use Rattle.stack_code.specs.Code.{loop_code}
+use Rattle.stack_code.specs.Machine.{instrs_at}
+use Rattle.stack_code.specs.Steps.{act}
+use Rattle.stack_code.specs.declared.code.Instr.{Instr}
+use Rattle.stack_code.specs.declared.image.Image.{Image}
+use Rattle.stack_code.specs.declared.state.After.{After}
+use Rattle.stack_code.specs.declared.state.After.TheVariants as A
+use Rattle.stack_code.specs.declared.state.BodyAt.{BodyAt}
+use Rattle.stack_code.specs.declared.state.BodyAt.TheVariants as B
+use Rattle.stack_code.specs.declared.state.Config.{Config}
+use Rattle.stack_code.specs.declared.state.Frame.{Frame}
+use Rattle.stack_code.specs.declared.state.Mode.{Mode}
+use Rattle.stack_code.specs.declared.state.Mode.TheVariants as M
+use Rattle.stack_code.specs.declared.state.Waiting.{Waiting}
 use Rattle.program_simulation.proofs.Fetch.{fetch_none}
 use Rattle.program_simulation.proofs.Simulates.{Around, frame, config, world, calls_of, Stands, paid, spent, stands_called, closing, fewer, stands_closed, stands_begun, Runs, Comes, stepped, At, Left, Closed, Stopped, charge_then, Does, Tests}
 

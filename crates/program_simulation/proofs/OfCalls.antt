@@ -1,15 +1,15 @@
 -- What calls and new instances come to.
 use Rattle.std.proofs.Common.{◌≡◌, ℕ, zero, suc, ◌+◌, ◌*◌, Bool, true, false, List, [], ◌∷◌, ◌++◌, drop, length, replicate, slice_get, Option, None, Some, option_map, refl, ap, ◌∙◌, subst}
-use Rattle.apex_meaning.specs.Runs.{Setting, site_of}
-use Rattle.apex_meaning.specs.States.{State, Res, charge, make}
-use Rattle.apex_meaning.specs.Values.{null}
+use Rattle.request_states.specs.Runs.{Setting, site_of}
+use Rattle.request_states.specs.States.{State, Res, charge, make}
+use Rattle.request_states.specs.Values.{null}
 use Rattle.apex_num.specs.declared.cell.Cell.TheVariants as C
 use Rattle.apex_num.specs.declared.kind.LimitKind.TheVariants.{Alloc}
-use Rattle.language_meaning.specs.Classes.{chain, instance_fields, own_starts, target, width}
-use Rattle.language_meaning.specs.Exceptions.{Kind, Declared, BuiltIn, Nothing, kind_of_thing}
-use Rattle.language_meaning.specs.Expressions as E
-use Rattle.language_meaning.specs.Meanings.{Again, Body, Method, Constructor, Run, all_of, called, dropped}
-use Rattle.language_meaning.specs.Preparing.{constructed, new_instance, prepared, set_message, started}
+use Rattle.apex_meaning.specs.Classes.{chain, instance_fields, own_starts, target, width}
+use Rattle.apex_meaning.specs.Exceptions.{Kind, Declared, BuiltIn, Nothing, kind_of_thing}
+use Rattle.apex_meaning.specs.Expressions as E
+use Rattle.apex_meaning.specs.Meanings.{Again, Body, Method, Constructor, Run, all_of, called, dropped}
+use Rattle.apex_meaning.specs.Preparing.{constructed, new_instance, prepared, set_message, started}
 use Rattle.save_meaning.proofs.Holding.{bind_bind, bound, weaken, weaken_end}
 use Rattle.save_meaning.specs.Results.{Gives, Stops, bind, Holds}
 use Rattle.save_meaning.specs.declared.run.TxnState.{TxnState}
@@ -20,18 +20,18 @@ use Rattle.txn_heap.specs.declared.thing.Value.{Value}
 use Rattle.txn_heap.specs.declared.thing.Value.TheVariants.{Plain, Object}
 use Rattle.typed_program.specs.declared.expr.Constructor.{Constructor as How}
 use Rattle.typed_program.specs.declared.expr.Constructor.TheVariants as K
-use Rattle.program_code.specs.Calls as Calls
-use Rattle.program_code.specs.Code.{call_code, joined, new_code, starts_code}
-use Rattle.program_code.specs.Images.{method_at as place_of}
-use Rattle.program_code.specs.Machine as Machine
-use Rattle.program_code.specs.Machine.{Next, on_top}
-use Rattle.program_code.specs.Things as M
-use Rattle.program_code.specs.declared.code.Instr.{Instr}
-use Rattle.program_code.specs.declared.code.Instr.TheVariants as I
-use Rattle.program_code.specs.declared.image.Image.{Image}
-use Rattle.program_code.specs.declared.state.After.TheVariants as A
-use Rattle.program_code.specs.declared.state.BodyAt.TheVariants as B
-use Rattle.program_code.specs.declared.state.Config.{Config}
+use Rattle.stack_code.specs.Calls as Calls
+use Rattle.stack_code.specs.Code.{call_code, joined, new_code, starts_code}
+use Rattle.stack_code.specs.Images.{method_at as place_of}
+use Rattle.stack_code.specs.Machine as Machine
+use Rattle.stack_code.specs.Machine.{Next, on_top}
+use Rattle.stack_code.specs.Things as M
+use Rattle.stack_code.specs.declared.code.Instr.{Instr}
+use Rattle.stack_code.specs.declared.code.Instr.TheVariants as I
+use Rattle.stack_code.specs.declared.image.Image.{Image}
+use Rattle.stack_code.specs.declared.state.After.TheVariants as A
+use Rattle.stack_code.specs.declared.state.BodyAt.TheVariants as B
+use Rattle.stack_code.specs.declared.state.Config.{Config}
 use Rattle.program_simulation.proofs.Classes.{IsImage}
 use Rattle.program_simulation.proofs.Frames as F
 use Rattle.program_simulation.proofs.Frames.{ground, at_body}

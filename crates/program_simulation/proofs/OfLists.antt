@@ -1,21 +1,21 @@
 -- Several values, one behind the other.
 use Rattle.std.proofs.Common.{◌≡◌, ℕ, suc, ◌+◌, List, [], ◌∷◌, ◌++◌, length, refl, sym, ap, ◌∙◌, append-nil, zero-add, arith}
-use Rattle.apex_meaning.specs.Expressions.{all_pairs}
-use Rattle.apex_meaning.specs.States.{State}
+use Rattle.request_states.specs.Expressions.{all_pairs}
+use Rattle.request_states.specs.States.{State}
 use Rattle.apex_rows.specs.declared.query.Answer.{Answer}
-use Rattle.language_meaning.specs.Expressions.{Entry, all_entries}
-use Rattle.language_meaning.specs.Meanings.{Run, all_of}
+use Rattle.apex_meaning.specs.Expressions.{Entry, all_entries}
+use Rattle.apex_meaning.specs.Meanings.{Run, all_of}
 use Rattle.save_meaning.proofs.Holding.{bound, weaken}
 use Rattle.save_meaning.specs.Results.{Gives, bind, Holds}
 use Rattle.save_meaning.specs.Sites.{Site}
 use Rattle.tenant_trails.specs.Runs as Trail
 use Rattle.txn_heap.specs.declared.thing.Value.{Value}
-use Rattle.program_code.specs.Code.{joined, pairs_code, fields_of}
-use Rattle.program_code.specs.Machine.{Next, taken, on_taken}
-use Rattle.program_code.specs.Things.{pairs_of, paired}
-use Rattle.program_code.specs.declared.code.Instr.{Instr}
-use Rattle.program_code.specs.declared.image.Image.{Image}
-use Rattle.program_code.specs.declared.state.Config.{Config}
+use Rattle.stack_code.specs.Code.{joined, pairs_code, fields_of}
+use Rattle.stack_code.specs.Machine.{Next, taken, on_taken}
+use Rattle.stack_code.specs.Things.{pairs_of, paired}
+use Rattle.stack_code.specs.declared.code.Instr.{Instr}
+use Rattle.stack_code.specs.declared.image.Image.{Image}
+use Rattle.stack_code.specs.declared.state.Config.{Config}
 use Rattle.program_simulation.proofs.Simulates as Sim
 use Rattle.program_simulation.proofs.Simulates.{Around}
 

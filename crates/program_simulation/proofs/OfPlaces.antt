@@ -1,16 +1,16 @@
 -- What variables come to that are read and assigned to.
 use Rattle.std.proofs.Common.{◌≡◌, ℕ, ◌+◌, Bool, true, false, cond, List, [], ◌∷◌, ◌++◌, length, drop, slice_get, slice_index_or, Option, Some, None, refl, ap, ◌∙◌, subst}
-use Rattle.apex_meaning.specs.Runs.{Setting, site_of}
-use Rattle.apex_meaning.specs.States.{State, Res, charge, with_heap}
+use Rattle.request_states.specs.Runs.{Setting, site_of}
+use Rattle.request_states.specs.States.{State, Res, charge, with_heap}
 use Rattle.apex_num.specs.declared.kind.LimitKind.TheVariants.{Alloc}
 use Rattle.builtin_table.specs.declared.method.Builtin.TheVariants as Which
 use Rattle.builtin_table.specs.declared.method.ListMethod.TheVariants as L
-use Rattle.language_meaning.specs.Classes.{field_place}
-use Rattle.language_meaning.specs.Collections.{on_collection}
-use Rattle.language_meaning.specs.Expressions.{Where}
-use Rattle.language_meaning.specs.Meanings.{Again, Run, calc}
-use Rattle.language_meaning.specs.Operations.{apply}
-use Rattle.language_meaning.specs.Places.{Target, LocalAt, StaticAt, FieldAt, CellAt, ItemAt, cell_at, cell_of_thing, field_in, field_of_thing, null_in_front, set_cell, set_cell_in_thing, set_field, set_in_thing, setting_units, with_cell, load, store, ready, got, assigned, assigned_with, changed}
+use Rattle.apex_meaning.specs.Classes.{field_place}
+use Rattle.apex_meaning.specs.Collections.{on_collection}
+use Rattle.apex_meaning.specs.Expressions.{Where}
+use Rattle.apex_meaning.specs.Meanings.{Again, Run, calc}
+use Rattle.apex_meaning.specs.Operations.{apply}
+use Rattle.apex_meaning.specs.Places.{Target, LocalAt, StaticAt, FieldAt, CellAt, ItemAt, cell_at, cell_of_thing, field_in, field_of_thing, null_in_front, set_cell, set_cell_in_thing, set_field, set_in_thing, setting_units, with_cell, load, store, ready, got, assigned, assigned_with, changed}
 use Rattle.save_meaning.proofs.Holding.{bind_bind, bound, weaken}
 use Rattle.save_meaning.specs.Results.{Gives, bind, Holds}
 use Rattle.save_meaning.specs.Sites.{Site}
@@ -26,15 +26,15 @@ use Rattle.typed_program.specs.declared.expr.StepKind.{StepKind}
 use Rattle.typed_program.specs.declared.program.Program.{Program}
 use Rattle.value_operators.specs.Operators.{Calc, converted, stepped}
 use Rattle.value_operators.specs.declared.calculated.Calculated.TheVariants.{Val, Fails}
-use Rattle.program_code.specs.Code.{PlaceCode}
-use Rattle.program_code.specs.Machine.{Next, next, on_calc}
-use Rattle.program_code.specs.Things as M
-use Rattle.program_code.specs.declared.code.Instr.{Instr}
-use Rattle.program_code.specs.declared.code.Instr.TheVariants as I
-use Rattle.program_code.specs.declared.code.Slot.{Slot}
-use Rattle.program_code.specs.declared.code.Slot.TheVariants as S
-use Rattle.program_code.specs.declared.image.Image.{Image}
-use Rattle.program_code.specs.declared.state.Config.{Config}
+use Rattle.stack_code.specs.Code.{PlaceCode}
+use Rattle.stack_code.specs.Machine.{Next, next, on_calc}
+use Rattle.stack_code.specs.Things as M
+use Rattle.stack_code.specs.declared.code.Instr.{Instr}
+use Rattle.stack_code.specs.declared.code.Instr.TheVariants as I
+use Rattle.stack_code.specs.declared.code.Slot.{Slot}
+use Rattle.stack_code.specs.declared.code.Slot.TheVariants as S
+use Rattle.stack_code.specs.declared.image.Image.{Image}
+use Rattle.stack_code.specs.declared.state.Config.{Config}
 use Rattle.program_simulation.proofs.Classes.{IsImage}
 use Rattle.program_simulation.proofs.Frames as F
 use Rattle.program_simulation.proofs.Simulates as Sim

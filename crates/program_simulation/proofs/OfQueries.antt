@@ -19,15 +19,15 @@ use Rattle.save_meaning.specs.Sites.{Site}
 use Rattle.save_meaning.specs.Transactions as Save
 use Rattle.save_meaning.specs.declared.run.TxnState.{TxnState}
 use Rattle.save_meaning.proofs.Holding.{bind_bind, bound}
-use Rattle.apex_meaning.specs.Expressions as E
-use Rattle.apex_meaning.specs.States.{State, Res, keeps}
-use Rattle.program_code.specs.Code.{count_if}
-use Rattle.program_code.specs.Machine.{Goes, Asks, in_mode, move}
-use Rattle.program_code.specs.Steps.{counted as counted_next}
-use Rattle.program_code.specs.declared.code.Counting.{Counting}
-use Rattle.program_code.specs.declared.code.Instr.TheVariants as I
-use Rattle.program_code.specs.declared.image.Image.{Image}
-use Rattle.program_code.specs.declared.state.Mode.TheVariants as M
+use Rattle.request_states.specs.Expressions as E
+use Rattle.request_states.specs.States.{State, Res, keeps}
+use Rattle.stack_code.specs.Code.{count_if}
+use Rattle.stack_code.specs.Machine.{Goes, Asks, in_mode, move}
+use Rattle.stack_code.specs.Steps.{counted as counted_next}
+use Rattle.stack_code.specs.declared.code.Counting.{Counting}
+use Rattle.stack_code.specs.declared.code.Instr.TheVariants as I
+use Rattle.stack_code.specs.declared.image.Image.{Image}
+use Rattle.stack_code.specs.declared.state.Mode.TheVariants as M
 use Rattle.program_simulation.proofs.Frames.{ground, in_it}
 use Rattle.program_simulation.proofs.Simulates as Sim
 use Rattle.program_simulation.proofs.Simulates.{Around, Stands, config, paid, spent}

@@ -1,8 +1,8 @@
 -- What instructions of things, and calls of built-in methods, come to.
 use Rattle.std.proofs.Common.{◌≡◌, ℕ, zero, suc, pos, ◌+◌, ◌*◌, Bool, true, false, List, [], ◌∷◌, ◌++◌, length, drop, map, slice_get, Option, None, Some, refl, sym, ap, ◌∙◌}
-use Rattle.apex_meaning.specs.Expressions.{all_pairs, make_record}
-use Rattle.apex_meaning.specs.States.{State, Res, charge, make, with_line}
-use Rattle.apex_meaning.specs.Values.{null}
+use Rattle.request_states.specs.Expressions.{all_pairs, make_record}
+use Rattle.request_states.specs.States.{State, Res, charge, make, with_line}
+use Rattle.request_states.specs.Values.{null}
 use Rattle.apex_num.specs.declared.cell.Cell.{Cell}
 use Rattle.apex_num.specs.declared.cell.Cell.TheVariants as C
 use Rattle.apex_num.specs.declared.kind.LimitKind.{LimitKind}
@@ -19,17 +19,17 @@ use Rattle.builtin_table.specs.declared.method.PlatformMethod.TheVariants as P
 use Rattle.heap_methods.specs.Making.{map_of, copied}
 use Rattle.heap_methods.specs.Methods.{method, units}
 use Rattle.heap_methods.specs.Outcomes.{Outcome, Done, Answers, Throws, done as things_done, units_of}
-use Rattle.language_meaning.specs.Builtins.{cell_in, first_of, rest_of, charge_answer, answered, on_cells, message_answered, if_exception, on_exception, on_platform, called_builtin, count}
-use Rattle.language_meaning.specs.Collections.{done, on_collection, make_for, make_filled, make_map, collection, make_outcome, make_copy, message_among, make_exception}
-use Rattle.apex_meaning.specs.Runs.{Setting, site_of}
-use Rattle.language_meaning.specs.Classes.{name_or}
-use Rattle.language_meaning.specs.Exceptions.{Kind, BuiltIn, Declared, Nothing, kind_of_thing, name_of_kind, message_of_thing, is_built_in, is_declared}
-use Rattle.program_code.specs.Machine
+use Rattle.apex_meaning.specs.Builtins.{cell_in, first_of, rest_of, charge_answer, answered, on_cells, message_answered, if_exception, on_exception, on_platform, called_builtin, count}
+use Rattle.apex_meaning.specs.Collections.{done, on_collection, make_for, make_filled, make_map, collection, make_outcome, make_copy, message_among, make_exception}
+use Rattle.request_states.specs.Runs.{Setting, site_of}
+use Rattle.apex_meaning.specs.Classes.{name_or}
+use Rattle.apex_meaning.specs.Exceptions.{Kind, BuiltIn, Declared, Nothing, kind_of_thing, name_of_kind, message_of_thing, is_built_in, is_declared}
+use Rattle.stack_code.specs.Machine
 use Rattle.program_simulation.proofs.Classes.{IsImage, name_in}
 use Rattle.typed_program.specs.declared.unit.TypedClass.{TypedClass}
-use Rattle.language_meaning.specs.Expressions.{Entry, all_entries, cast_if, cast_to, say}
-use Rattle.language_meaning.specs.Meanings.{Again, Run}
-use Rattle.language_meaning.specs.Operations.{text_made}
+use Rattle.apex_meaning.specs.Expressions.{Entry, all_entries, cast_if, cast_to, say}
+use Rattle.apex_meaning.specs.Meanings.{Again, Run}
+use Rattle.apex_meaning.specs.Operations.{text_made}
 use Rattle.limit_meter.specs.Charges.{counter}
 use Rattle.save_meaning.proofs.Holding.{bound, weaken}
 use Rattle.save_meaning.specs.Results.{Gives, bind, Holds}
@@ -43,16 +43,16 @@ use Rattle.txn_heap.specs.declared.thing.Value.TheVariants.{Plain, Object}
 use Rattle.typed_program.specs.declared.expr.CollectionKind.{CollectionKind}
 use Rattle.typed_program.specs.declared.expr.CollectionKind.TheVariants as Kinds
 use Rattle.value_texts.specs.Texts.{text_of}
-use Rattle.program_code.specs.Machine.{Next, next, charged}
-use Rattle.program_code.specs.Things as M
-use Rattle.program_code.specs.declared.code.Instr.{Instr}
-use Rattle.program_code.specs.declared.code.Instr.TheVariants as I
-use Rattle.program_code.specs.declared.image.Image.{Image}
-use Rattle.program_code.specs.declared.state.Config.{Config}
+use Rattle.stack_code.specs.Machine.{Next, next, charged}
+use Rattle.stack_code.specs.Things as M
+use Rattle.stack_code.specs.declared.code.Instr.{Instr}
+use Rattle.stack_code.specs.declared.code.Instr.TheVariants as I
+use Rattle.stack_code.specs.declared.image.Image.{Image}
+use Rattle.stack_code.specs.declared.state.Config.{Config}
 use Rattle.program_simulation.proofs.Simulates as Sim
 use Rattle.program_simulation.proofs.Simulates.{Around, Stands, config}
 use Rattle.program_simulation.proofs.OfValues.{Follow, text_at}
-use Rattle.program_code.specs.Code.{fields_of, joined, pairs_code}
+use Rattle.stack_code.specs.Code.{fields_of, joined, pairs_code}
 use Rattle.program_simulation.proofs.OfLists.{pushed, taken_comes, flat, flat_length, flat_pairs, names, values, as_many, paired_again, AllEnter, entries_at, AllFill, pairs_at}
 
 module _ (site : Site) (image : Image) (r : Trail.Run) where

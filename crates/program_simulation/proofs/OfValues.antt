@@ -2,15 +2,15 @@
 use Rattle.std.proofs.Common.{◌≡◌, ℕ, ◌+◌, Bool, true, false, cond, List, [], ◌∷◌, ◌++◌, length, drop, Option, None, Some, ap, ◌∙◌, append_assoc}
 use Rattle.std.specs.Prelude.{slice_index_or}
 use Rattle.std.proofs.Math.Seq.{drop-append_seam, drop-append-add}
-use Rattle.apex_meaning.specs.Expressions.{constant}
-use Rattle.apex_meaning.specs.States.{State, Res, charge}
-use Rattle.apex_meaning.specs.Values.{null, cell_of}
+use Rattle.request_states.specs.Expressions.{constant}
+use Rattle.request_states.specs.States.{State, Res, charge}
+use Rattle.request_states.specs.Values.{null, cell_of}
 use Rattle.apex_num.specs.declared.cell.Cell.{Cell}
 use Rattle.apex_num.specs.declared.cell.Cell.TheVariants as C
 use Rattle.apex_num.specs.declared.kind.LimitKind.TheVariants.{Alloc}
-use Rattle.language_meaning.specs.Expressions.{parts_of}
-use Rattle.language_meaning.specs.Meanings.{Run, Behind, Test, calc, known_truth, truth_of, test}
-use Rattle.language_meaning.specs.Operations.{boolean, text_made, apply, decided, both, either, operated, chained}
+use Rattle.apex_meaning.specs.Expressions.{parts_of}
+use Rattle.apex_meaning.specs.Meanings.{Run, Behind, Test, calc, known_truth, truth_of, test}
+use Rattle.apex_meaning.specs.Operations.{boolean, text_made, apply, decided, both, either, operated, chained}
 use Rattle.save_meaning.proofs.Holding.{bound, weaken}
 use Rattle.save_meaning.specs.Results.{Gives, bind, Holds}
 use Rattle.save_meaning.specs.Sites.{Site}
@@ -25,15 +25,15 @@ use Rattle.typed_program.specs.declared.expr.TypedOp.{TypedOp}
 use Rattle.typed_program.specs.declared.expr.TypedOp.TheVariants as Op
 use Rattle.value_operators.specs.Operators.{Calc, applied, converted, joined as texts_joined, negated, truth}
 use Rattle.value_operators.specs.declared.calculated.Calculated.TheVariants.{Val, Fails}
-use Rattle.program_code.specs.Code.{constant_code, choice_code, joined, operator_code}
-use Rattle.program_code.specs.Machine.{Next, next, on_calc, on_truth}
-use Rattle.program_code.specs.Steps as Steps
-use Rattle.program_code.specs.Steps.{operator_next}
-use Rattle.program_code.specs.Things.{text_next}
-use Rattle.program_code.specs.declared.code.Instr.{Instr}
-use Rattle.program_code.specs.declared.code.Instr.TheVariants as I
-use Rattle.program_code.specs.declared.code.Slot.TheVariants as S
-use Rattle.program_code.specs.declared.image.Image.{Image}
+use Rattle.stack_code.specs.Code.{constant_code, choice_code, joined, operator_code}
+use Rattle.stack_code.specs.Machine.{Next, next, on_calc, on_truth}
+use Rattle.stack_code.specs.Steps as Steps
+use Rattle.stack_code.specs.Steps.{operator_next}
+use Rattle.stack_code.specs.Things.{text_next}
+use Rattle.stack_code.specs.declared.code.Instr.{Instr}
+use Rattle.stack_code.specs.declared.code.Instr.TheVariants as I
+use Rattle.stack_code.specs.declared.code.Slot.TheVariants as S
+use Rattle.stack_code.specs.declared.image.Image.{Image}
 use Rattle.program_simulation.proofs.Fetch.{past}
 use Rattle.program_simulation.proofs.Simulates as Sim
 use Rattle.program_simulation.proofs.Simulates.{Around, Stands, config}

@@ -4,26 +4,26 @@ use Rattle.std.proofs.lemmas.List.{map-append, reverse-append, reverse-reverse}
 use Rattle.activations.specs.declared.abrupt.Abrupt.{Abrupt}
 use Rattle.activations.specs.declared.abrupt.Abrupt.TheVariants.{Throws, Returns, Breaks, Continues}
 use Rattle.activations.specs.declared.here.Here.{Here}
-use Rattle.apex_meaning.specs.Runs.{Setting, site_of}
-use Rattle.apex_meaning.specs.States.{State, Res}
-use Rattle.apex_meaning.specs.Values.{null}
-use Rattle.language_meaning.specs.Classes.{chain, fields_at, Starts}
-use Rattle.language_meaning.specs.Meanings.{Again, Body, Constructor, Fields, Statics, Do, all_do, called, dropped}
-use Rattle.language_meaning.specs.Preparing as P
-use Rattle.language_meaning.specs.Preparing.{unprepared, with_statics, prepared, started}
+use Rattle.request_states.specs.Runs.{Setting, site_of}
+use Rattle.request_states.specs.States.{State, Res}
+use Rattle.request_states.specs.Values.{null}
+use Rattle.apex_meaning.specs.Classes.{chain, fields_at, Starts}
+use Rattle.apex_meaning.specs.Meanings.{Again, Body, Constructor, Fields, Statics, Do, all_do, called, dropped}
+use Rattle.apex_meaning.specs.Preparing as P
+use Rattle.apex_meaning.specs.Preparing.{unprepared, with_statics, prepared, started}
 use Rattle.save_meaning.proofs.Holding.{bound, weaken, weaken_end}
 use Rattle.save_meaning.specs.Results.{Stop, Leaves, Closes, Gives, Stops, bind, Holds}
 use Rattle.save_meaning.specs.declared.run.TxnState.{TxnState}
 use Rattle.tenant_trails.specs.Runs as Trail
 use Rattle.txn_heap.specs.declared.thing.Value.{Value}
 use Rattle.txn_heap.specs.Statics.{prepare}
-use Rattle.program_code.specs.Calls as Calls
-use Rattle.program_code.specs.Code.{starts_code}
-use Rattle.program_code.specs.Machine.{Next, class_code}
-use Rattle.program_code.specs.declared.code.Instr.TheVariants as I
-use Rattle.program_code.specs.declared.image.Image.{Image}
-use Rattle.program_code.specs.declared.state.After.TheVariants as A
-use Rattle.program_code.specs.declared.state.Config.{Config}
+use Rattle.stack_code.specs.Calls as Calls
+use Rattle.stack_code.specs.Code.{starts_code}
+use Rattle.stack_code.specs.Machine.{Next, class_code}
+use Rattle.stack_code.specs.declared.code.Instr.TheVariants as I
+use Rattle.stack_code.specs.declared.image.Image.{Image}
+use Rattle.stack_code.specs.declared.state.After.TheVariants as A
+use Rattle.stack_code.specs.declared.state.Config.{Config}
 use Rattle.program_simulation.proofs.Classes.{IsImage}
 use Rattle.program_simulation.proofs.Frames as F
 use Rattle.program_simulation.proofs.Frames.{Ground, ground, standing, in_it, waits, at_body}

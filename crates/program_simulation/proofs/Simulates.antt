@@ -20,26 +20,26 @@ use Rattle.save_meaning.specs.declared.run.TxnState.{TxnState}
 use Rattle.save_meaning.specs.MoveLaws.{Alike}
 use Rattle.save_meaning.proofs.Holding.{bound, weaken}
 use Rattle.row_meaning.specs.Overlays.{Overlay}
-use Rattle.apex_meaning.specs.Refusals.{no_writes, refusal, not_yet}
-use Rattle.apex_meaning.specs.States.{State, charge, keeps, unbuilt}
-use Rattle.apex_meaning.specs.Runs.{counts_of, ended}
-use Rattle.language_meaning.specs.Meanings.{Run, Behind, Do, Test}
-use Rattle.program_code.specs.Code.{unbuilt as unbuilt_code}
-use Rattle.program_code.specs.Machine.{Next, counts_in, reply_of, in_mode, instrs_at, charged_if, charged}
-use Rattle.program_code.specs.Runs.{drive, steps, Ends}
-use Rattle.program_code.specs.Steps.{act, step}
-use Rattle.program_code.specs.declared.code.Instr.{Instr}
-use Rattle.program_code.specs.declared.code.Instr.TheVariants as I
-use Rattle.program_code.specs.declared.image.Image.{Image}
-use Rattle.program_code.specs.declared.state.After.{After}
-use Rattle.program_code.specs.declared.state.After.TheVariants as A
-use Rattle.program_code.specs.declared.state.BodyAt.{BodyAt}
-use Rattle.program_code.specs.declared.state.Config.{Config}
-use Rattle.program_code.specs.declared.state.Frame.{Frame}
-use Rattle.program_code.specs.declared.state.Handler.{Handler}
-use Rattle.program_code.specs.declared.state.Mode.TheVariants as M
-use Rattle.program_code.specs.declared.state.Waiting.{Waiting}
-use Rattle.program_code.specs.declared.state.World.{World as WorldOf}
+use Rattle.request_states.specs.Refusals.{no_writes, refusal, not_yet}
+use Rattle.request_states.specs.States.{State, charge, keeps, unbuilt}
+use Rattle.request_states.specs.Runs.{counts_of, ended}
+use Rattle.apex_meaning.specs.Meanings.{Run, Behind, Do, Test}
+use Rattle.stack_code.specs.Code.{unbuilt as unbuilt_code}
+use Rattle.stack_code.specs.Machine.{Next, counts_in, reply_of, in_mode, instrs_at, charged_if, charged}
+use Rattle.stack_code.specs.Runs.{drive, steps, Ends}
+use Rattle.stack_code.specs.Steps.{act, step}
+use Rattle.stack_code.specs.declared.code.Instr.{Instr}
+use Rattle.stack_code.specs.declared.code.Instr.TheVariants as I
+use Rattle.stack_code.specs.declared.image.Image.{Image}
+use Rattle.stack_code.specs.declared.state.After.{After}
+use Rattle.stack_code.specs.declared.state.After.TheVariants as A
+use Rattle.stack_code.specs.declared.state.BodyAt.{BodyAt}
+use Rattle.stack_code.specs.declared.state.Config.{Config}
+use Rattle.stack_code.specs.declared.state.Frame.{Frame}
+use Rattle.stack_code.specs.declared.state.Handler.{Handler}
+use Rattle.stack_code.specs.declared.state.Mode.TheVariants as M
+use Rattle.stack_code.specs.declared.state.Waiting.{Waiting}
+use Rattle.stack_code.specs.declared.state.World.{World as WorldOf}
 use Rattle.program_simulation.proofs.Fetch.{fetch, next, past}
 
 pub keeping : Save.IsKept keeps

@@ -1,20 +1,20 @@
 -- The code of every expression does what the expression means.
 use Rattle.std.proofs.Common.{◌≡◌, ℕ, suc, List, [], ◌∷◌, ◌++◌, length, map, refl, sym, ap, ◌∙◌, subst}
-use Rattle.apex_meaning.specs.Runs.{Setting, site_of}
-use Rattle.apex_meaning.specs.States.{State, unbuilt}
-use Rattle.apex_meaning.specs.Values.{is_cell}
+use Rattle.request_states.specs.Runs.{Setting, site_of}
+use Rattle.request_states.specs.States.{State, unbuilt}
+use Rattle.request_states.specs.Values.{is_cell}
 use Rattle.builtin_table.specs.declared.method.Builtin.TheVariants as Which
 use Rattle.builtin_table.specs.declared.method.ListMethod.TheVariants as L
-use Rattle.language_meaning.specs.Builtins.{called_builtin}
-use Rattle.language_meaning.specs.Classes.{field_place}
-use Rattle.language_meaning.specs.Collections.{on_collection, make_filled, make_copy, make_exception}
-use Rattle.language_meaning.specs.Exceptions.{is_declared, is_built_in}
-use Rattle.language_meaning.specs.Expressions as E
-use Rattle.language_meaning.specs.Expressions.{Where, Entry, all_entries, cast_to, chosen, parts_of, say}
-use Rattle.language_meaning.specs.Meanings.{Again, Run, Behind, all_of, calc, test, truth_of}
-use Rattle.language_meaning.specs.Operations.{operated, chained}
-use Rattle.language_meaning.specs.Places.{FieldAt, CellAt, ItemAt}
-use Rattle.language_meaning.specs.Preparing.{new_instance}
+use Rattle.apex_meaning.specs.Builtins.{called_builtin}
+use Rattle.apex_meaning.specs.Classes.{field_place}
+use Rattle.apex_meaning.specs.Collections.{on_collection, make_filled, make_copy, make_exception}
+use Rattle.apex_meaning.specs.Exceptions.{is_declared, is_built_in}
+use Rattle.apex_meaning.specs.Expressions as E
+use Rattle.apex_meaning.specs.Expressions.{Where, Entry, all_entries, cast_to, chosen, parts_of, say}
+use Rattle.apex_meaning.specs.Meanings.{Again, Run, Behind, all_of, calc, test, truth_of}
+use Rattle.apex_meaning.specs.Operations.{operated, chained}
+use Rattle.apex_meaning.specs.Places.{FieldAt, CellAt, ItemAt}
+use Rattle.apex_meaning.specs.Preparing.{new_instance}
 use Rattle.save_meaning.proofs.Holding.{bind_bind, bound, weaken}
 use Rattle.save_meaning.specs.Results.{Gives, bind}
 use Rattle.tenant_trails.specs.Runs as Trail
@@ -33,11 +33,11 @@ use Rattle.typed_program.specs.declared.expr.TypedPair.{TypedPair}
 use Rattle.typed_program.specs.declared.expr.TypedBind.TheOpen.{TypedExpr-F, TypedNew-F, TypedPart-F, TypedPlace-F, TypedItem-F, TypedOperand-F, TypedPair-F}
 use Rattle.typed_program.specs.declared.expr.TypedBind.TheViews.{roll-TypedExpr, roll-TypedNew, roll-TypedPart, roll-TypedPlace, roll-TypedItem, roll-TypedOperand, roll-TypedPair}
 use Rattle.typed_program.specs.declared.expr.TypedBind.TheFolds.{fold-TypedBind, fold-TypedExpr, fold-TypedNew, fold-TypedPart, fold-TypedPlace, fold-TypedItem, fold-TypedOperand, fold-TypedPair, fold-roll-TypedExpr, fold-roll-TypedNew, fold-roll-TypedPart, fold-roll-TypedPlace, fold-roll-TypedItem, fold-roll-TypedOperand, fold-roll-TypedPair, map-TypedExpr, map-TypedNew, map-TypedPart, map-TypedPlace, map-TypedItem, map-TypedOperand, map-TypedPair, ind-TypedExpr}
-use Rattle.program_code.specs.Code as Code
-use Rattle.program_code.specs.Code.{Instrs, PlaceCode, joined}
-use Rattle.program_code.specs.declared.code.Instr.TheVariants as I
-use Rattle.program_code.specs.declared.code.Slot.TheVariants as S
-use Rattle.program_code.specs.declared.image.Image.{Image}
+use Rattle.stack_code.specs.Code as Code
+use Rattle.stack_code.specs.Code.{Instrs, PlaceCode, joined}
+use Rattle.stack_code.specs.declared.code.Instr.TheVariants as I
+use Rattle.stack_code.specs.declared.code.Slot.TheVariants as S
+use Rattle.stack_code.specs.declared.image.Image.{Image}
 use Rattle.program_simulation.proofs.Classes.{IsImage}
 use Rattle.program_simulation.proofs.Frames as F
 use Rattle.program_simulation.proofs.OfCalls

@@ -6,15 +6,15 @@ use Rattle.save_meaning.specs.declared.run.SaveRun.{SaveRun}
 use Rattle.save_meaning.specs.declared.run.TxnState.{TxnState}
 use Rattle.save_procedure.specs.declared.run.Stopped.TheVariants as E
 use Rattle.save_procedure.specs.Does.{GoesOn, Advances}
-use Rattle.apex_meaning.specs.Statements.{set_ids}
-use Rattle.program_code.specs.declared.state.Config.{Config}
-use Rattle.program_code.specs.declared.image.Image.{Image}
-use Rattle.program_code.specs.declared.state.Mode.TheVariants as M
+use Rattle.request_states.specs.Statements.{set_ids}
+use Rattle.stack_code.specs.declared.state.Config.{Config}
+use Rattle.stack_code.specs.declared.image.Image.{Image}
+use Rattle.stack_code.specs.declared.state.Mode.TheVariants as M
 use Rattle.activations.specs.declared.abrupt.Abrupt.TheVariants.{Throws}
 use Rattle.activations.specs.declared.abrupt.Raised.TheVariants.{Platform}
-use Rattle.program_code.specs.Machine as Machine
-use Rattle.program_code.specs.Machine.{limited}
-use Rattle.program_code.specs.Steps.{saving}
+use Rattle.stack_code.specs.Machine as Machine
+use Rattle.stack_code.specs.Machine.{limited}
+use Rattle.stack_code.specs.Steps.{saving}
 use Rattle.program_things.specs.declared.moved.Moved.{Moved}
 use Rattle.program_things.specs.declared.moved.Moved.TheVariants as S
 use Rattle.program_things.specs.Saves.{BehindSave, cost, step_of, GoesTo, IsStepTo}
@@ -77,10 +77,20 @@ module _ (schema : Schema) (ticket : Ticket) (image : Image) (places : List ℕ)
         stays = tt;
         counts = ap (λ x. cost (M.Saving places a.last) x) e;
       }
+  halted_in run w l r v (S.Halted k) d a h =
+      let e : step_of schema ticket image (conf a.last a.before) ≡ limited l.kind l.number (record (c.world) { txn = v }) = ap (λ m. saving places m (conf a.last a.before)) a.stops in record {
+        moves = a.moves;
+        last = conf a.last a.before;
+        goes = goes_in a.moves run w a.last a.before a.goes;
+        does = e ∙ h;
+        stays = tt;
+        counts = ap (λ x. cost (M.Saving places a.last) x) e;
+      }
   halted_in run w l r v S.Went d a h = cc
   halted_in run w l r v (S.Asked q) d a h = cc
 
 pub halted_behind : (k : _) (n : ℕ) (world : _) (c d : Config) (m : Moved) → IsStep (limited k n world) m d → BehindSave c m d
+halted_behind k n world c d (S.Halted l) h = tt
 halted_behind k n world c d (S.Over reply writes) h = tt
 halted_behind k n world c d S.Went h = cc
 halted_behind k n world c d (S.Asked q) h = cc

@@ -16,9 +16,9 @@ use Rattle.txn_heap.specs.declared.thing.Ref.{Ref}
 use Rattle.txn_heap.specs.declared.thing.Thing.{Thing}
 use Rattle.txn_heap.specs.declared.thing.Value.{Value}
 use Rattle.txn_heap.specs.declared.thing.Value.TheVariants.{Plain, Object}
-use Rattle.program_code.specs.declared.state.Config.{Config}
-use Rattle.program_code.specs.Machine.{Next, charged, charged_if, raise, with_heap}
-use Rattle.program_code.specs.Things.{collection, done_next}
+use Rattle.stack_code.specs.declared.state.Config.{Config}
+use Rattle.stack_code.specs.Machine.{Next, charged, charged_if, raise, with_heap}
+use Rattle.stack_code.specs.Things.{collection, done_next}
 use Rattle.program_things.specs.declared.moved.Moved.{Moved}
 use Rattle.program_things.specs.Collects.{Carries, Collects, Throws, ThrowsBy, carried}
 use Rattle.program_things.specs.Steps.{Charges, IsStep, paid}

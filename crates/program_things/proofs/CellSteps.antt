@@ -1,9 +1,9 @@
 -- Cells of records in instructions.
 use Rattle.std.proofs.Common.{◌≡◌, ℕ, Bool, true, false, cond, List, [], ◌∷◌, Option, Some, None, refl, sym, ap, ◌∙◌}
 use Rattle.std.specs.Prelude.{slice_get, slice_index_or}
-use Rattle.apex_meaning.specs.Values.{null}
+use Rattle.request_states.specs.Values.{null}
 use Rattle.apex_num.specs.declared.kind.LimitKind.TheVariants.{Alloc}
-use Rattle.language_meaning.specs.Places.{cell_or_null, setting_units, with_cell}
+use Rattle.apex_meaning.specs.Places.{cell_or_null, setting_units, with_cell}
 use Rattle.platform_errors.specs.declared.thrown.Thrown.TheVariants.{NullObject}
 use Rattle.txn_heap.specs.declared.thing.Ref.{Ref}
 use Rattle.txn_heap.specs.declared.thing.Thing.{Thing}
@@ -13,11 +13,11 @@ use Rattle.txn_heap.specs.declared.thing.Value.TheVariants.{Plain, Object}
 use Rattle.typed_program.specs.declared.expr.Number.{Number}
 use Rattle.typed_program.specs.declared.expr.StepKind.{StepKind}
 use Rattle.value_operators.specs.Operators.{stepped}
-use Rattle.program_code.specs.declared.code.Slot.TheVariants as S
-use Rattle.program_code.specs.declared.state.Config.{Config}
-use Rattle.program_code.specs.declared.state.World.{World}
-use Rattle.program_code.specs.Machine.{Next, charged, next, on_calc, on_taken, raise, taken, with_heap}
-use Rattle.program_code.specs.Things.{cell_loaded, cell_of_thing, cell_stored, change_next, fetch_next, get_next, loaded, null_loaded, set_cell_in_thing, set_next, stored}
+use Rattle.stack_code.specs.declared.code.Slot.TheVariants as S
+use Rattle.stack_code.specs.declared.state.Config.{Config}
+use Rattle.stack_code.specs.declared.state.World.{World}
+use Rattle.stack_code.specs.Machine.{Next, charged, next, on_calc, on_taken, raise, taken, with_heap}
+use Rattle.stack_code.specs.Things.{cell_loaded, cell_of_thing, cell_stored, change_next, fetch_next, get_next, loaded, null_loaded, set_cell_in_thing, set_next, stored}
 use Rattle.program_things.specs.Cells.{cell_of, cell_read, null_if, setting_at, setting_of}
 use Rattle.program_things.specs.Steps.{Takes}
 use Rattle.program_things.proofs.Lists.{taken_one}

@@ -7,8 +7,8 @@ use Rattle.apex_num.specs.declared.kind.LimitKind.TheVariants.{Alloc}
 use Rattle.limit_meter.specs.declared.Limit.{Limit}
 use Rattle.limit_meter.specs.Charges.{limit_of, count_of, with_count}
 use Rattle.heap_units.specs.Growths.{capped}
-use Rattle.program_code.specs.declared.state.Config.{Config}
-use Rattle.program_code.specs.Machine.{Next, charged, charged_if, limited, with_txn}
+use Rattle.stack_code.specs.declared.state.Config.{Config}
+use Rattle.stack_code.specs.Machine.{Next, charged, charged_if, limited, with_txn}
 use Rattle.program_things.specs.declared.moved.Moved.{Moved}
 use Rattle.program_things.specs.Steps.{IsStep, Charges, ChargesText, paid}
 

@@ -1,7 +1,7 @@
 -- Fields of instances in instructions.
 use Rattle.std.proofs.Common.{◌≡◌, ℕ, Bool, true, false, cond, List, [], ◌∷◌, Option, Some, None, refl, sym, ap, ◌∙◌}
 use Rattle.std.specs.Prelude.{slice_get, slice_index_or}
-use Rattle.apex_meaning.specs.Values.{null}
+use Rattle.request_states.specs.Values.{null}
 use Rattle.platform_errors.specs.declared.thrown.Thrown.TheVariants.{NullObject}
 use Rattle.txn_heap.specs.Changes.{changed as things_changed, thing_after}
 use Rattle.txn_heap.specs.declared.change.Change.TheVariants as Now
@@ -13,10 +13,10 @@ use Rattle.txn_heap.specs.declared.thing.Value.TheVariants.{Plain, Object}
 use Rattle.typed_program.specs.declared.expr.Number.{Number}
 use Rattle.typed_program.specs.declared.expr.StepKind.{StepKind}
 use Rattle.value_operators.specs.Operators.{stepped}
-use Rattle.program_code.specs.declared.code.Slot.TheVariants as S
-use Rattle.program_code.specs.declared.state.Config.{Config}
-use Rattle.program_code.specs.Machine.{Next, next, on_calc, on_taken, raise, taken, with_heap}
-use Rattle.program_code.specs.Things.{change_next, fetch_next, field_loaded, field_of_thing, field_stored, get_next, loaded, set_in_thing, set_next, stored}
+use Rattle.stack_code.specs.declared.code.Slot.TheVariants as S
+use Rattle.stack_code.specs.declared.state.Config.{Config}
+use Rattle.stack_code.specs.Machine.{Next, next, on_calc, on_taken, raise, taken, with_heap}
+use Rattle.stack_code.specs.Things.{change_next, fetch_next, field_loaded, field_of_thing, field_stored, get_next, loaded, set_in_thing, set_next, stored}
 use Rattle.program_things.specs.Steps.{Takes}
 use Rattle.program_things.specs.Variables.{field_at, field_of, instance_at, is_instance}
 use Rattle.program_things.proofs.Lists.{taken_one}

@@ -1,7 +1,7 @@
 -- The frame behind a call of a method of a collection.
 use Rattle.std.proofs.Common.{◌≡◌, Result, Ok, subst}
 use Rattle.txn_heap.specs.declared.thing.Value.{Value}
-use Rattle.program_code.specs.declared.state.Config.{Config}
+use Rattle.stack_code.specs.declared.state.Config.{Config}
 use Rattle.program_things.specs.declared.moved.Moved.{Moved}
 use Rattle.program_things.specs.Collects.{SameFrame}
 

@@ -1,14 +1,14 @@
 -- A debug line.
 use Rattle.std.proofs.Common.{◌≡◌, ℕ, ◌+◌, List, [], ◌∷◌, ◌++◌, length, Ok, sym, ap, ◌∙◌}
-use Rattle.apex_meaning.specs.Values.{null}
+use Rattle.request_states.specs.Values.{null}
 use Rattle.apex_num.specs.declared.kind.LimitKind.TheVariants.{Alloc}
 use Rattle.save_meaning.specs.Sites.{Site}
 use Rattle.txn_heap.specs.declared.thing.Value.{Value}
 use Rattle.value_texts.specs.Texts.{text_of}
-use Rattle.program_code.specs.Machine.{next, with_line}
-use Rattle.program_code.specs.Things.{print_next}
-use Rattle.program_code.specs.declared.image.Image.{Image}
-use Rattle.program_code.specs.declared.state.Config.{Config}
+use Rattle.stack_code.specs.Machine.{next, with_line}
+use Rattle.stack_code.specs.Things.{print_next}
+use Rattle.stack_code.specs.declared.image.Image.{Image}
+use Rattle.stack_code.specs.declared.state.Config.{Config}
 use Rattle.program_things.specs.Steps.{ChargesText}
 use Rattle.program_things.proofs.Charged.{behind_paid}
 

@@ -6,7 +6,7 @@ use Rattle.apex_num.specs.declared.cell.Cell.TheVariants as C
 use Rattle.apex_num.specs.declared.kind.LimitKind.TheVariants.{Alloc}
 use Rattle.heap_methods.specs.Making.{map_of, set_of}
 use Rattle.heap_methods.specs.Outcomes.{content}
-use Rattle.language_meaning.specs.Exceptions.{Kind, Nothing, BuiltIn, Declared, kind_of_thing, message_of_thing}
+use Rattle.apex_meaning.specs.Exceptions.{Kind, Nothing, BuiltIn, Declared, kind_of_thing, message_of_thing}
 use Rattle.platform_errors.specs.declared.thrown.Thrown.TheVariants.{NullObject}
 use Rattle.txn_heap.specs.declared.thing.Thing.{Thing}
 use Rattle.txn_heap.specs.declared.thing.Thing.TheVariants as T
@@ -14,10 +14,10 @@ use Rattle.txn_heap.specs.declared.thing.Value.{Value}
 use Rattle.txn_heap.specs.declared.thing.Value.TheVariants.{Plain, Object}
 use Rattle.typed_program.specs.declared.expr.CollectionKind.{CollectionKind}
 use Rattle.typed_program.specs.declared.expr.CollectionKind.TheVariants as Kinds
-use Rattle.program_code.specs.declared.image.Image.{Image}
-use Rattle.program_code.specs.declared.state.Config.{Config}
-use Rattle.program_code.specs.Machine.{Next, next, raise, with_heap}
-use Rattle.program_code.specs.Things.{entries_next, filled_next, if_exception, make_for, message_next, name_of_kind, on_exception, pairs_of, sized_next, text_next}
+use Rattle.stack_code.specs.declared.image.Image.{Image}
+use Rattle.stack_code.specs.declared.state.Config.{Config}
+use Rattle.stack_code.specs.Machine.{Next, next, raise, with_heap}
+use Rattle.stack_code.specs.Things.{entries_next, filled_next, if_exception, make_for, message_next, name_of_kind, on_exception, pairs_of, sized_next, text_next}
 use Rattle.program_things.specs.declared.moved.Moved.{Moved}
 use Rattle.program_things.specs.Collects.{filled_of, flat}
 use Rattle.program_things.specs.Kinds.{if_known, kind_at, message_at, message_in}

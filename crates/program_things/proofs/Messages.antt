@@ -2,7 +2,7 @@
 use Rattle.std.proofs.Common.{◌≡◌, ℕ, zero, suc, List, [], ◌∷◌, Option, Some, None, refl, sym, ap, ◌∙◌}
 use Rattle.std.specs.Prelude.{slice_get, slice_set}
 use Rattle.apex_num.specs.declared.cell.Cell.{Cell}
-use Rattle.language_meaning.specs.Preparing.{with_message}
+use Rattle.apex_meaning.specs.Preparing.{with_message}
 use Rattle.txn_heap.specs.Changes.{changed}
 use Rattle.txn_heap.specs.declared.thing.Thing.{Thing}
 use Rattle.txn_heap.specs.declared.thing.Thing.TheVariants as T

@@ -18,8 +18,8 @@ use Rattle.builtin_table.specs.declared.method.PlatformMethod.{PlatformMethod}
 use Rattle.builtin_table.specs.declared.method.PlatformMethod.TheVariants as P
 use Rattle.heap_methods.specs.Methods.{method, units}
 use Rattle.heap_methods.specs.Outcomes.{Outcome, Done, Answers, Throws, done as things_done, units_of}
-use Rattle.language_meaning.specs.Builtins.{cell_in, first_of, rest_of}
-use Rattle.language_meaning.specs.Exceptions.{Kind, Nothing, BuiltIn, Declared, kind_of_thing, message_of_thing}
+use Rattle.apex_meaning.specs.Builtins.{cell_in, first_of, rest_of}
+use Rattle.apex_meaning.specs.Exceptions.{Kind, Nothing, BuiltIn, Declared, kind_of_thing, message_of_thing}
 use Rattle.limit_meter.specs.Charges.{count_of, limit_of}
 use Rattle.txn_heap.specs.declared.thing.Thing.{Thing}
 use Rattle.txn_heap.specs.declared.thing.Thing.TheVariants as T
@@ -34,13 +34,13 @@ use Rattle.typed_program.specs.declared.expr.TypedOp.{TypedOp}
 use Rattle.typed_program.specs.declared.expr.TypedOp.TheVariants as Op
 use Rattle.value_operators.specs.Operators.{Calc, applied, joined, stepped}
 use Rattle.value_operators.specs.declared.calculated.Calculated.TheVariants.{Val, Fails}
-use Rattle.program_code.specs.declared.code.Slot.TheVariants as S
-use Rattle.program_code.specs.declared.image.Image.{Image}
-use Rattle.program_code.specs.declared.state.Config.{Config}
-use Rattle.program_code.specs.declared.state.World.{World}
-use Rattle.program_code.specs.Machine.{Next, Goes, charged, charged_if, next, on_calc, on_taken, on_top, raise, taken}
-use Rattle.program_code.specs.Steps.{insert_next, operator_next}
-use Rattle.program_code.specs.Things.{answered_next, builtin_next, cast_if, cast_next, cells_next, change_next, collection, copied_next, done_next, fetch_next, field_loaded, field_stored, get_next, if_exception, loaded, make_for, message_next, name_of_kind, on_exception, platform_next, set_message, set_next, sized_next, stored, text_next}
+use Rattle.stack_code.specs.declared.code.Slot.TheVariants as S
+use Rattle.stack_code.specs.declared.image.Image.{Image}
+use Rattle.stack_code.specs.declared.state.Config.{Config}
+use Rattle.stack_code.specs.declared.state.World.{World}
+use Rattle.stack_code.specs.Machine.{Next, Goes, charged, charged_if, next, on_calc, on_taken, on_top, raise, taken}
+use Rattle.stack_code.specs.Steps.{insert_next, operator_next}
+use Rattle.stack_code.specs.Things.{answered_next, builtin_next, cast_if, cast_next, cells_next, change_next, collection, copied_next, done_next, fetch_next, field_loaded, field_stored, get_next, if_exception, loaded, make_for, message_next, name_of_kind, on_exception, platform_next, set_message, set_next, sized_next, stored, text_next}
 use Rattle.program_things.specs.Kinds.{cast_fits}
 use Rattle.program_things.specs.Steps.{Takes}
 use Rattle.program_things.proofs.Lists.{taken_one, taken_two}

@@ -1,7 +1,7 @@
 -- Charges of texts by their sizes.
 use Rattle.std.proofs.Common.{◌≡◌, ℕ, ◌+◌, ◌-◌, ◌^◌, min, Option, subst, arith}
 use Rattle.apex_num.specs.declared.kind.LimitKind.TheVariants.{Alloc}
-use Rattle.program_code.specs.declared.state.Config.{Config}
+use Rattle.stack_code.specs.declared.state.Config.{Config}
 use Rattle.program_things.specs.declared.moved.Moved.{Moved}
 use Rattle.program_things.specs.Steps.{Charges}
 use Rattle.program_things.proofs.Charged.{capped_charges}

@@ -1,7 +1,7 @@
 -- Cells of the records that values name.
 use Rattle.std.specs.Prelude.{ℕ, Bool, true, false, List, slice_get, slice_index_or, Option, None, Some}
-use Rattle.apex_meaning.specs.Values.{null}
-use Rattle.language_meaning.specs.Places.{cell_or_null, setting_units}
+use Rattle.request_states.specs.Values.{null}
+use Rattle.apex_meaning.specs.Places.{cell_or_null, setting_units}
 use Rattle.txn_heap.specs.declared.thing.Ref.{Ref}
 use Rattle.txn_heap.specs.declared.thing.Thing.{Thing}
 use Rattle.txn_heap.specs.declared.thing.Thing.TheVariants as T

@@ -12,9 +12,9 @@ use Rattle.txn_heap.specs.declared.thing.Thing.TheVariants as T
 use Rattle.txn_heap.specs.declared.thing.Value.{Value}
 use Rattle.typed_program.specs.declared.expr.CollectionKind.{CollectionKind}
 use Rattle.typed_program.specs.declared.expr.CollectionKind.TheVariants as Kinds
-use Rattle.program_code.specs.declared.state.Config.{Config}
-use Rattle.program_code.specs.Machine.{Next, charged}
-use Rattle.program_code.specs.Things.{collection, done_next}
+use Rattle.stack_code.specs.declared.state.Config.{Config}
+use Rattle.stack_code.specs.Machine.{Next, charged}
+use Rattle.stack_code.specs.Things.{collection, done_next}
 use Rattle.program_things.specs.declared.moved.Moved.{Moved}
 use Rattle.program_things.specs.Steps.{IsStep, Takes}
 

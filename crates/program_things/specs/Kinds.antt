@@ -1,7 +1,7 @@
 -- What things are, and what of them is asked.
 use Rattle.std.specs.Prelude.{ℕ, Bool, true, List, slice_get, Option, None, Some}
 use Rattle.apex_num.specs.declared.cell.Cell.{Cell}
-use Rattle.language_meaning.specs.Exceptions.{Kind, BuiltIn, Declared, Nothing, kind_of_thing, message_of_thing}
+use Rattle.apex_meaning.specs.Exceptions.{Kind, BuiltIn, Declared, Nothing, kind_of_thing, message_of_thing}
 use Rattle.txn_heap.specs.declared.thing.Thing.{Thing}
 use Rattle.txn_heap.specs.declared.thing.Thing.TheVariants as T
 use Rattle.txn_heap.specs.declared.thing.Value.{Value}

@@ -1,13 +1,13 @@
 -- What is said of a step of the running machine.
 use Rattle.std.specs.Prelude.{◌≡◌, ◌≤◌, ◌<◌, ℕ, ◌+◌, List, [], ◌∷◌, length, Option, None, Some, Result, Ok, Err}
-use Rattle.apex_meaning.specs.Values.{null}
+use Rattle.request_states.specs.Values.{null}
 use Rattle.apex_num.specs.declared.kind.LimitKind.{LimitKind}
 use Rattle.apex_num.specs.declared.kind.LimitKind.TheVariants.{Alloc}
 use Rattle.limit_meter.specs.Charges.{limit_of, count_of, with_count}
 use Rattle.tenant_trails.specs.Runs as Trail
 use Rattle.txn_heap.specs.declared.thing.Value.{Value}
-use Rattle.program_code.specs.declared.state.Config.{Config}
-use Rattle.program_code.specs.Machine.{Next, Goes, Asks, Over, limited, with_txn}
+use Rattle.stack_code.specs.declared.state.Config.{Config}
+use Rattle.stack_code.specs.Machine.{Next, Goes, Asks, Over, limited, with_txn}
 use Rattle.program_things.specs.declared.moved.Moved.{Moved}
 use Rattle.program_things.specs.declared.moved.Moved.TheVariants as S
 
@@ -15,6 +15,7 @@ use Rattle.program_things.specs.declared.moved.Moved.TheVariants as S
 abbrev pub IsStep : Next → Moved → Config → Type 0
 IsStep next S.Went d = next ≡ Goes d
 IsStep next (S.Asked q) d = next ≡ Asks q
+IsStep next (S.Halted l) d = next ≡ limited l.kind l.number d.world
 IsStep next (S.Over reply writes) d = (next ≡ Over (Trail.Ends reply writes)) × (reply.ops ≡ 0)
 
 -- a state that asks waits as it is

@@ -1,7 +1,7 @@
 -- Instructions of values, variables and things.
 use Rattle.std.specs.Prelude.{Bool, true, false}
-use Rattle.program_code.specs.declared.code.Instr.{Instr}
-use Rattle.program_code.specs.declared.code.Instr.TheVariants as I
+use Rattle.stack_code.specs.declared.code.Instr.{Instr}
+use Rattle.stack_code.specs.declared.code.Instr.TheVariants as I
 
 abbrev pub is_value : Instr → Bool
 is_value (I.Push k) = true

@@ -1,6 +1,6 @@
 -- Fields of the instances that values name.
 use Rattle.std.specs.Prelude.{ℕ, Bool, true, false, cond, List, slice_get, slice_index_or, Option, None, Some}
-use Rattle.apex_meaning.specs.Values.{null}
+use Rattle.request_states.specs.Values.{null}
 use Rattle.txn_heap.specs.declared.thing.Ref.{Ref}
 use Rattle.txn_heap.specs.declared.thing.Thing.{Thing}
 use Rattle.txn_heap.specs.declared.thing.Thing.TheVariants as T

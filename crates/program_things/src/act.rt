@@ -2,7 +2,7 @@
 
 ghost use Rattle.std.specs.Prelude.{◌≡◌, ◌<◌, ◌+◌, ◌^◌, true, suc, Some, IfOk};
 ghost use Rattle.record_ids.specs.Ids.{most};
-ghost use Rattle.program_code.specs.Steps as spec;
+ghost use Rattle.stack_code.specs.Steps as spec;
 ghost use Rattle.program_things.specs.Steps.{IsStep};
 ghost use Rattle.program_things.specs.Values.{is_value};
 
@@ -23,7 +23,7 @@ use crate::variables::{act_fetch, act_get};
 use apex_num::NoMemory;
 use apex_requests::Ticket;
 use apex_schema::Schema;
-use program_code::{Config, Image, Instr};
+use stack_code::{Config, Image, Instr};
 use std::alloc::Global;
 
 /// An instruction of values, variables and things.

@@ -5,11 +5,11 @@ ghost use Rattle.apex_num.specs.declared.cell.Cell.TheVariants as C;
 ghost use Rattle.builtin_table.specs.Meanings.{meaning};
 ghost use Rattle.builtin_table.specs.declared.method.Builtin.TheVariants as B;
 ghost use Rattle.builtin_table.specs.declared.method.MomentMethod.TheVariants.{Date};
-ghost use Rattle.language_meaning.specs.Builtins.{cell_in, first_of, rest_of};
-ghost use Rattle.language_meaning.specs.Exceptions.{kind_of_thing, message_of_thing};
+ghost use Rattle.apex_meaning.specs.Builtins.{cell_in, first_of, rest_of};
+ghost use Rattle.apex_meaning.specs.Exceptions.{kind_of_thing, message_of_thing};
 ghost use Rattle.record_ids.specs.Ids.{most};
-ghost use Rattle.program_code.specs.Machine as spec;
-ghost use Rattle.program_code.specs.Things as things;
+ghost use Rattle.stack_code.specs.Machine as spec;
+ghost use Rattle.stack_code.specs.Things as things;
 ghost use Rattle.program_things.specs.Kinds.{as_kind};
 ghost use Rattle.program_things.specs.Steps.{IsStep};
 
@@ -25,8 +25,8 @@ use builtin_sizes::text_size;
 use builtin_table::{Builtin, BuiltinEnd, MomentMethod, PlatformMethod, call_builtin};
 use limit_meter::most_of;
 use platform_errors::Thrown;
-use program_code::{Config, Image};
 use record_ids::user_id;
+use stack_code::{Config, Image};
 use std::alloc::{AllocError, Global};
 use txn_heap::Value;
 
@@ -80,7 +80,7 @@ fn cells_next(
     requires { c.old.top.pc + 1 < 2 ^ 64 }
     ensures { IfOk result (λ m. IsStep (things.cells_next which cells.now c.old c.old.top.stack) m c.new) }
 {
-    match charge_sized(alloc, text_size(which, cells), c) {
+    match charge_sized(text_size(which, cells), c) {
         Some(moved) => Ok(moved),
         None => answered_next(alloc, which, cells, c),
     }
@@ -141,23 +141,23 @@ fn bytes_in(text: &Text) -> u64
 }
 
 // A text that is there already is charged as one that is made.
-fn text_next(alloc: Global, text: Text, c: &mut Config) -> Result<Moved, NoMemory>
+fn text_next(text: Text, c: &mut Config) -> Result<Moved, NoMemory>
     requires { c.old.top.pc + 1 < 2 ^ 64 }
     ensures { IfOk result (λ m. IsStep (things.text_next text c.old c.old.top.stack) m c.new) }
 {
     let size = bytes_in(&text);
-    match charge_sized(alloc, Some(size), c) {
+    match charge_sized(Some(size), c) {
         Some(moved) => Ok(moved),
         None => next_with(Value::Plain(Cell::Text(text)), c),
     }
 }
 
-fn message_next(alloc: Global, message: Cell, c: &mut Config) -> Result<Moved, NoMemory>
+fn message_next(message: Cell, c: &mut Config) -> Result<Moved, NoMemory>
     requires { c.old.top.pc + 1 < 2 ^ 64 }
     ensures { IfOk result (λ m. IsStep (things.message_next message c.old c.old.top.stack) m c.new) }
 {
     match message {
-        Cell::Text(text) => text_next(alloc, text, c),
+        Cell::Text(text) => text_next(text, c),
         message => next_with(Value::Plain(message), c),
     }
 }
@@ -167,7 +167,7 @@ fn on_message(alloc: Global, on: &Value, c: &mut Config) -> Result<Moved, NoMemo
     ensures { IfOk result (λ m. IsStep (things.on_exception on.now c.old (λ t. things.message_next (message_of_thing t) c.old c.old.top.stack)) m c.new) }
 {
     match message_named(on, &c.world.heap)? {
-        Some(message) => message_next(alloc, message, c),
+        Some(message) => message_next(message, c),
         None => Ok(raise(alloc, Thrown::NullObject, c)),
     }
 }
@@ -183,7 +183,7 @@ fn name_next(
     ensures { IfOk result (λ m. IsStep (things.text_next (things.name_of_kind image.now (as_kind kind)) c.old c.old.top.stack) m c.new) }
 {
     let name = name_of_kind(alloc, image, kind)?;
-    text_next(alloc, name, c)
+    text_next(name, c)
 }
 
 fn on_type_name(alloc: Global, image: &Image, on: &Value, c: &mut Config) -> Result<Moved, NoMemory>

@@ -3,11 +3,11 @@
 ghost use Rattle.std.specs.Prelude.{◌≡◌, ◌<◌, ◌+◌, ◌^◌, ◌∷◌, [], cond, slice_index_or, None, IfOk};
 ghost use Rattle.std.specs.Option.{option_copied};
 ghost use Rattle.apex_num.specs.declared.kind.LimitKind.TheVariants.{Alloc};
-ghost use Rattle.language_meaning.specs.Places.{cell_or_null, setting_units, with_cell};
+ghost use Rattle.apex_meaning.specs.Places.{cell_or_null, setting_units, with_cell};
 ghost use Rattle.value_operators.specs.Operators as operators;
-ghost use Rattle.program_code.specs.declared.code.Slot.TheVariants as S;
-ghost use Rattle.program_code.specs.Machine as spec;
-ghost use Rattle.program_code.specs.Things as things;
+ghost use Rattle.stack_code.specs.declared.code.Slot.TheVariants as S;
+ghost use Rattle.stack_code.specs.Machine as spec;
+ghost use Rattle.stack_code.specs.Things as things;
 ghost use Rattle.program_things.specs.Cells as cells;
 ghost use Rattle.program_things.specs.Steps.{IsStep};
 
@@ -19,7 +19,7 @@ use crate::stores::chosen;
 use apex_list::Items;
 use apex_num::{Cell, LimitKind, NoMemory};
 use platform_errors::Thrown;
-use program_code::Config;
+use stack_code::Config;
 use std::alloc::Global;
 use txn_heap::{Change, Heap, Ref, Thing, Value};
 use typed_program::{Number, StepKind};
@@ -157,7 +157,6 @@ pub(crate) fn fetch_cell(
 
 // Charges the store of a cell; then the record knows it, and another value is put.
 fn know(
-    alloc: Global,
     setting: (Ref, u64),
     field: usize,
     value: Value,
@@ -167,7 +166,7 @@ fn know(
     requires { c.old.top.pc + 1 < 2 ^ 64 }
     ensures { IfOk result (λ m. IsStep (spec.charged Alloc setting.1 c.old (λ d. spec.next (spec.with_heap d (with_cell field value setting.0.place d.world.heap)) (put ∷ c.old.top.stack))) m c.new) }
 {
-    match charge(alloc, LimitKind::Alloc, setting.1, c) {
+    match charge(LimitKind::Alloc, setting.1, c) {
         Some(moved) => Ok(moved),
         None => {
             c.world
@@ -191,7 +190,7 @@ fn cell_stored(
     ensures { IfOk result (λ m. IsStep (things.cell_stored field on.now value c.old (λ d. spec.next d (put ∷ c.old.top.stack))) m c.new) }
 {
     match setting(field, on, &c.world.heap) {
-        Some(setting) => know(alloc, setting, field, value, put, c),
+        Some(setting) => know(setting, field, value, put, c),
         None => Ok(raise(alloc, Thrown::NullObject, c)),
     }
 }

@@ -6,25 +6,24 @@ ghost use Rattle.program_things.specs.Steps.{Charges, ChargesSize};
 use crate::ends::limited;
 use crate::moved::Moved;
 use apex_num::LimitKind;
-use program_code::Config;
-use std::alloc::Global;
+use stack_code::Config;
 
 /// Charges n of a kind; or the request is over.
-pub fn charge(alloc: Global, kind: LimitKind, n: u64, c: &mut Config) -> Option<Moved>
+pub fn charge(kind: LimitKind, n: u64, c: &mut Config) -> Option<Moved>
     ensures { Charges kind n c.old result c.new }
 {
     match c.world.txn.meter.charge(kind, n) {
         Ok(()) => None,
-        Err(limit) => Some(limited(alloc, limit, c)),
+        Err(limit) => Some(limited(limit, c)),
     }
 }
 
 /// A text of so many bytes is charged before it is made, where one is made.
-pub(crate) fn charge_sized(alloc: Global, size: Option<u64>, c: &mut Config) -> Option<Moved>
+pub(crate) fn charge_sized(size: Option<u64>, c: &mut Config) -> Option<Moved>
     ensures { ChargesSize size c.old result c.new }
 {
     match size {
         None => None,
-        Some(size) => charge(alloc, LimitKind::Alloc, size.saturating_add(16), c),
+        Some(size) => charge(LimitKind::Alloc, size.saturating_add(16), c),
     }
 }

@@ -5,10 +5,10 @@ ghost use Rattle.apex_num.specs.declared.kind.LimitKind.TheVariants as K;
 ghost use Rattle.heap_methods.specs.Outcomes.{content};
 ghost use Rattle.heap_methods.specs.Making as making;
 ghost use Rattle.heap_methods.specs.Plans.{planned};
-ghost use Rattle.language_meaning.specs.Collections.{collection as made_as};
+ghost use Rattle.apex_meaning.specs.Collections.{collection as made_as};
 ghost use Rattle.txn_heap.specs.declared.thing.Thing.TheVariants as T;
-ghost use Rattle.program_code.specs.Machine as spec;
-ghost use Rattle.program_code.specs.Things as things;
+ghost use Rattle.stack_code.specs.Machine as spec;
+ghost use Rattle.stack_code.specs.Things as things;
 ghost use Rattle.program_things.specs.Steps.{IsStep};
 ghost use Rattle.program_things.specs.Collects.{Collects, Carries, SameFrame, Throws, ThrowsBy, TakesPair, filled_of, flat};
 
@@ -21,7 +21,7 @@ use builtin_table::{Builtin, BuiltinEnd, ExceptionClass};
 use heap_methods::{Collection, Plan, carry_out, copied, map_of, plan_call, set_of};
 use heap_units::{plan_units, thing_units};
 use platform_errors::Thrown;
-use program_code::Config;
+use stack_code::Config;
 use std::alloc::{AllocError, Global};
 use txn_heap::{Entries, Ref, Thing, Value};
 use typed_program::CollectionKind;
@@ -29,17 +29,12 @@ use typed_program::CollectionKind;
 // ---- methods
 
 // What is planned is charged and then carried out.
-fn carry(
-    alloc: Global,
-    on: Ref,
-    plan: Plan,
-    c: &mut Config,
-) -> Result<Result<Value, Moved>, NoMemory>
+fn carry(on: Ref, plan: Plan, c: &mut Config) -> Result<Result<Value, Moved>, NoMemory>
     ensures does { IfOk result (λ r. Carries (planned plan (slice_get c.old.world.heap on.place)) on.place c.old r c.new) }
     ensures frame { IfOk result (λ r. SameFrame c.old r c.new) }
 {
     let units = plan_units(&c.world.heap, on, &plan)?;
-    match charge(alloc, LimitKind::Alloc, units, c) {
+    match charge(LimitKind::Alloc, units, c) {
         Some(moved) => Ok(Err(moved)),
         None => Ok(Ok(carry_out(&mut c.world.heap, on, plan)?)),
     }
@@ -49,7 +44,7 @@ fn carry(
 fn throw(alloc: Global, class: ExceptionClass, message: Text, c: &mut Config) -> Moved
     ensures { Throws class message c.old result c.new }
 {
-    match charge(alloc, LimitKind::Alloc, 0, c) {
+    match charge(LimitKind::Alloc, 0, c) {
         Some(moved) => moved,
         None => raise(alloc, Thrown::Builtin(class, message), c),
     }
@@ -77,7 +72,7 @@ fn collect_on(
     ensures frame { IfOk result (λ r. SameFrame c.old r c.new) }
 {
     match plan_call(&c.world.heap, which, on, args) {
-        Ok(plan) => carry(alloc, on, plan, c),
+        Ok(plan) => carry(on, plan, c),
         Err(end) => Ok(Err(ended(alloc, end, c)?)),
     }
 }
@@ -112,11 +107,11 @@ pub(crate) fn made_next(thing: Thing, c: &mut Config) -> Result<Moved, NoMemory>
 }
 
 /// A new thing is charged at 32 units and those of what is in it, and put.
-pub(crate) fn make_thing(alloc: Global, thing: Thing, c: &mut Config) -> Result<Moved, NoMemory>
+pub(crate) fn make_thing(thing: Thing, c: &mut Config) -> Result<Moved, NoMemory>
     requires { c.old.top.pc + 1 < 2 ^ 64 }
     ensures { IfOk result (λ m. IsStep (things.make_for (32 + content thing) thing c.old c.old.top.stack) m c.new) }
 {
-    match charge(alloc, LimitKind::Alloc, thing_units(&thing), c) {
+    match charge(LimitKind::Alloc, thing_units(&thing), c) {
         Some(moved) => Ok(moved),
         None => made_next(thing, c),
     }
@@ -145,7 +140,7 @@ pub fn act_filled(
 {
     let values = take_values(alloc, count, &mut c.top.stack)?;
     let thing = filled(alloc, kind, values)?;
-    make_thing(alloc, thing, c)
+    make_thing(thing, c)
 }
 
 // A key and its value, which lie on top.
@@ -180,7 +175,7 @@ pub fn act_entries(alloc: Global, count: usize, c: &mut Config) -> Result<Moved,
 {
     let pairs = take_pairs(alloc, count, &mut c.top.stack)?;
     let entries = map_of(alloc, pairs.as_slice())?;
-    make_thing(alloc, Thing::Map(entries), c)
+    make_thing(Thing::Map(entries), c)
 }
 
 fn collection_of(kind: CollectionKind) -> Collection
@@ -203,7 +198,7 @@ fn copied_next(
     ensures { IfOk result (λ m. IsStep (things.copied_next (making.copied into from.now c.old.world.heap) c.old c.old.top.stack) m c.new) }
 {
     match copied(&c.world.heap, into, from) {
-        Ok(thing) => make_thing(alloc, thing, c),
+        Ok(thing) => make_thing(thing, c),
         Err(BuiltinEnd::Throw(class, message)) => Ok(throw(alloc, class, message, c)),
         Err(BuiltinEnd::NoMemory) => Err(AllocError),
     }

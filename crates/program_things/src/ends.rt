@@ -1,16 +1,19 @@
 // How a request ends.
 
 ghost use Rattle.std.specs.Prelude.{◌≡◌, IfOk};
-ghost use Rattle.program_code.specs.Machine as spec;
+ghost use Rattle.stack_code.specs.Machine as spec;
+ghost use Rattle.apex_requests.specs.declared.reply.Outcome.TheVariants.{Ok as Done};
 ghost use Rattle.program_things.specs.Steps.{IsStep};
+ghost use Rattle.program_things.specs.declared.moved.Moved.TheVariants as S;
 
 use crate::moved::Moved;
-use apex_list::Items;
-use apex_meaning::{no_writes, not_yet, refusal};
+use apex_list::{Boxed, Items};
 use apex_num::{LimitKind, NoMemory};
 use apex_requests::{Counts, Outcome, Reply};
+use apex_rows::Writes;
 use limit_meter::Limit;
-use program_code::Config;
+use request_states::{no_writes, not_yet, refusal};
+use stack_code::Config;
 use std::alloc::Global;
 use std::mem::replace;
 
@@ -35,18 +38,36 @@ pub fn reply_of(alloc: Global, outcome: Outcome, c: &mut Config) -> Reply
     }
 }
 
-/// What throws or passes a limit writes nothing.
-pub fn failing(alloc: Global, outcome: Outcome, c: &mut Config) -> Moved
-    ensures { IsStep (spec.failing outcome c.old.world) result c.new }
+// The request is over.
+fn over(alloc: Global, reply: Reply, writes: Writes) -> Result<Moved, NoMemory>
+    ensures { IfOk result (λ m. m ≡ S.Over reply writes) }
 {
-    Moved::Over(reply_of(alloc, outcome, c), no_writes(alloc))
+    let reply = Boxed::new(alloc, reply)?;
+    let writes = Boxed::new(alloc, writes)?;
+    Ok(Moved::Over(reply, writes))
+}
+
+/// It came to its end, with what it writes.
+pub fn ended(alloc: Global, writes: Writes, c: &mut Config) -> Result<Moved, NoMemory>
+    ensures { IfOk result (λ m. m ≡ S.Over (spec.reply_of Done c.old.world) writes) }
+{
+    let reply = reply_of(alloc, Outcome::Ok, c);
+    over(alloc, reply, writes)
+}
+
+/// What throws writes nothing.
+pub fn failing(alloc: Global, outcome: Outcome, c: &mut Config) -> Result<Moved, NoMemory>
+    ensures { IfOk result (λ m. IsStep (spec.failing outcome c.old.world) m c.new) }
+{
+    let reply = reply_of(alloc, outcome, c);
+    over(alloc, reply, no_writes(alloc))
 }
 
 /// A limit was passed.
-pub fn limited(alloc: Global, limit: Limit, c: &mut Config) -> Moved
-    ensures { IsStep (spec.limited limit.kind limit.number c.old.world) result c.new }
+pub fn limited(limit: Limit, c: &Config) -> Moved
+    ensures { IsStep (spec.limited limit.kind limit.number c.now.world) result c.now }
 {
-    failing(alloc, Outcome::Limit(limit.kind, limit.number), c)
+    Moved::Halted(limit)
 }
 
 /// A form that isn't built yet.
@@ -54,5 +75,5 @@ pub fn refused(alloc: Global, c: &Config) -> Result<Moved, NoMemory>
     ensures { IfOk result (λ m. IsStep spec.refused m c.now) }
 {
     let fault = not_yet(alloc)?;
-    Ok(Moved::Over(refusal(alloc, fault), no_writes(alloc)))
+    over(alloc, refusal(alloc, fault), no_writes(alloc))
 }

@@ -3,14 +3,14 @@
 ghost use Rattle.std.specs.Prelude.{◌≡◌, eqb, IfOk};
 ghost use Rattle.std.specs.List.{list_any};
 ghost use Rattle.std.specs.Option.{option_copied};
-ghost use Rattle.language_meaning.specs.Exceptions.{kind_of_thing, is_built_in as built_in};
-ghost use Rattle.program_code.specs.Calls.{fits_or};
-ghost use Rattle.program_code.specs.Things as things;
+ghost use Rattle.apex_meaning.specs.Exceptions.{kind_of_thing, is_built_in as built_in};
+ghost use Rattle.stack_code.specs.Calls.{fits_or};
+ghost use Rattle.stack_code.specs.Things as things;
 ghost use Rattle.program_things.specs.Kinds as spec;
 
 use apex_num::{Cell, NoMemory, Text};
 use builtin_table::ExceptionClass;
-use program_code::{ClassCode, Image};
+use stack_code::{ClassCode, Image};
 use std::alloc::Global;
 use txn_heap::{Heap, Thing, Value};
 

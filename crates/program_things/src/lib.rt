@@ -1,4 +1,4 @@
-//! What instructions do with values, variables and things, as they run: each step is the one of `program_code` (docs/language.md,
+//! What instructions do with values, variables and things, as they run: each step is the one of `stack_code` (docs/language.md,
 //! "The machine of whole programs").
 #![tactic(auto)]
 
@@ -20,7 +20,7 @@ mod variables;
 
 pub use act::act_value;
 pub use charges::charge;
-pub use ends::{failing, limited, refused, reply_of};
+pub use ends::{ended, failing, limited, refused, reply_of};
 pub use kinds::{
     ThingKind, is_built_in, is_declared, kind_named, kind_of, message_named, name_of_kind,
 };

@@ -1,7 +1,9 @@
 // What a step did.
 
+use apex_list::Boxed;
 use apex_requests::Reply;
 use apex_rows::{Question, Writes};
+use limit_meter::Limit;
 
 /// What a step did.
 #[derive(Drop)]
@@ -10,6 +12,8 @@ pub enum Moved {
     Went,
     /// It asks, and waits for the answer.
     Asked(Question),
+    /// A limit was passed: the request is over, and its reply tells what the machine has by now.
+    Halted(Limit),
     /// The request is over, with its reply, the number of steps left out, and what it writes.
-    Over(Reply, Writes),
+    Over(Boxed<Reply>, Boxed<Writes>),
 }

@@ -1,7 +1,7 @@
 // Operands, and where the machine goes on.
 
 ghost use Rattle.std.specs.Prelude.{◌≡◌, ◌<◌, ◌+◌, ◌^◌, ◌∷◌, [], IfOk};
-ghost use Rattle.program_code.specs.Machine as spec;
+ghost use Rattle.stack_code.specs.Machine as spec;
 ghost use Rattle.program_things.specs.Steps.{IsStep, Takes};
 
 use crate::moved::Moved;
@@ -9,7 +9,7 @@ use activations::{Abrupt, Raised};
 use apex_list::Stack;
 use apex_num::{Cell, NoMemory};
 use platform_errors::Thrown;
-use program_code::{Config, Mode};
+use stack_code::{Config, Mode};
 use std::alloc::Global;
 use txn_heap::Value;
 

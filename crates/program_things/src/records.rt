@@ -2,9 +2,9 @@
 
 ghost use Rattle.std.specs.Prelude.{◌≡◌, ◌∷◌, [], Some, None, length, replicate, IfOk, OnOk};
 ghost use Rattle.std.specs.Option.{option_copied};
-ghost use Rattle.apex_meaning.specs.Expressions.{with_pairs, known as known_of, width as width_of};
-ghost use Rattle.apex_meaning.specs.Statements as spec;
-ghost use Rattle.program_code.specs.Things.{paired};
+ghost use Rattle.request_states.specs.Expressions.{with_pairs, known as known_of, width as width_of};
+ghost use Rattle.request_states.specs.Statements as spec;
+ghost use Rattle.stack_code.specs.Things.{paired};
 
 use apex_list::Items;
 use apex_num::{Cell, Id, NoMemory, copy_list};

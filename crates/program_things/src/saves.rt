@@ -1,17 +1,17 @@
 // Counts and saves.
 
 ghost use Rattle.std.specs.Prelude.{◌≡◌, ◌<◌, ◌+◌, ◌^◌, ◌∷◌, pos, IfOk, OnOk};
-ghost use Rattle.apex_meaning.specs.Statements as statements;
+ghost use Rattle.request_states.specs.Statements as statements;
 ghost use Rattle.save_meaning.specs.Counts.{count_of as rows_counted};
 ghost use Rattle.save_meaning.specs.Inserts.{rows_of_answer};
 ghost use Rattle.save_meaning.specs.Moves as saves;
 ghost use Rattle.save_procedure.specs.Does.{IsSound, HasIds, IsPaid};
 ghost use Rattle.apex_rows.specs.declared.query.Question.TheVariants.{Read};
-ghost use Rattle.program_code.specs.declared.image.Image.{Image as AnyImage};
-ghost use Rattle.program_code.specs.declared.state.Config.{Config as AnyConfig};
-ghost use Rattle.program_code.specs.declared.state.Mode.TheVariants as M;
-ghost use Rattle.program_code.specs.Machine as spec;
-ghost use Rattle.program_code.specs.Steps as steps;
+ghost use Rattle.stack_code.specs.declared.image.Image.{Image as AnyImage};
+ghost use Rattle.stack_code.specs.declared.state.Config.{Config as AnyConfig};
+ghost use Rattle.stack_code.specs.declared.state.Mode.TheVariants as M;
+ghost use Rattle.stack_code.specs.Machine as spec;
+ghost use Rattle.stack_code.specs.Steps as steps;
 ghost use Rattle.program_things.specs.Saves.{AsksRead, BehindSave, IsStepTo};
 ghost use Rattle.program_things.specs.Steps.{IsStep};
 
@@ -27,10 +27,10 @@ use apex_requests::{SaveRow, Ticket};
 use apex_rows::{Answer, Question, Row};
 use apex_schema::Schema;
 use platform_errors::Thrown;
-use program_code::{Config, Counting, Mode};
 use row_conditions::holds;
 use save_meaning::{SaveRun, Stage};
 use save_procedure::{Stopped, advance};
+use stack_code::{Config, Counting, Mode};
 use std::alloc::Global;
 use txn_heap::Value;
 use txn_overlay::Overlay;
@@ -60,7 +60,7 @@ pub fn act_count(alloc: Global, counting: &Counting, c: &mut Config) -> Result<M
     requires { c.old.top.pc + 1 < 2 ^ 64 }
     ensures { IfOk result (λ m. IsStep (steps.count_next counting.now c.old) m c.new) }
 {
-    match charge(alloc, LimitKind::Queries, 1, c) {
+    match charge(LimitKind::Queries, 1, c) {
         Some(moved) => Ok(moved),
         None => {
             let asking = copy_counting(alloc, counting)?;
@@ -126,7 +126,7 @@ pub fn count(
 ) -> Result<Moved, NoMemory>
     ensures { IfOk result (λ m. IsStep (steps.counted counting.now answer c.old) m c.new) }
 {
-    match charge(alloc, LimitKind::Rows, 1, c) {
+    match charge(LimitKind::Rows, 1, c) {
         Some(moved) => Ok(moved),
         None => {
             let overlay = c.world.txn.overlay.overlay();
@@ -219,6 +219,6 @@ pub fn save(
             set_mode(c, Mode::Leaving(Abrupt::Throws(Raised::Platform(thrown))));
             Ok(Moved::Went)
         }
-        Stopped::Halted(limit) => Ok(limited(alloc, limit, c)),
+        Stopped::Halted(limit) => Ok(limited(limit, c)),
     }
 }

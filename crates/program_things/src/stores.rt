@@ -4,9 +4,9 @@ ghost use Rattle.std.specs.Prelude.{◌≡◌, ◌<◌, ◌+◌, ◌^◌, ◌∷
 ghost use Rattle.heap_methods.specs.Operands.{or_null};
 ghost use Rattle.txn_heap.specs.Statics.{static_at, with_static};
 ghost use Rattle.value_operators.specs.Operators as operators;
-ghost use Rattle.program_code.specs.declared.code.Slot.TheVariants as S;
-ghost use Rattle.program_code.specs.Machine as spec;
-ghost use Rattle.program_code.specs.Things as things;
+ghost use Rattle.stack_code.specs.declared.code.Slot.TheVariants as S;
+ghost use Rattle.stack_code.specs.Machine as spec;
+ghost use Rattle.stack_code.specs.Things as things;
 ghost use Rattle.program_things.specs.Steps.{IsStep};
 
 use crate::cells::{change_cell, set_cell};
@@ -17,7 +17,7 @@ use crate::variables::{field_value, instance_named, local_at, put_at, static_val
 use apex_num::NoMemory;
 use builtin_table::{Builtin, ListMethod};
 use platform_errors::Thrown;
-use program_code::{Config, Slot};
+use stack_code::{Config, Slot};
 use std::alloc::Global;
 use txn_heap::{Change, Value};
 use typed_program::{Number, StepKind};

@@ -3,12 +3,12 @@
 ghost use Rattle.std.specs.Prelude.{◌≡◌, ◌≤◌, ◌<◌, ◌+◌, ◌^◌, ◌∷◌, [], length, slice_get, IfOk, OnOk};
 ghost use Rattle.std.specs.Option.{option_copied};
 ghost use Rattle.apex_num.specs.declared.kind.LimitKind.TheVariants.{Alloc};
-ghost use Rattle.language_meaning.specs.Collections.{message_among};
-ghost use Rattle.language_meaning.specs.Exceptions.{is_built_in as built_in};
-ghost use Rattle.language_meaning.specs.Preparing.{with_message};
+ghost use Rattle.apex_meaning.specs.Collections.{message_among};
+ghost use Rattle.apex_meaning.specs.Exceptions.{is_built_in as built_in};
+ghost use Rattle.apex_meaning.specs.Preparing.{with_message};
 ghost use Rattle.txn_heap.specs.declared.thing.Thing.TheVariants as T;
-ghost use Rattle.program_code.specs.Machine as spec;
-ghost use Rattle.program_code.specs.Things as things;
+ghost use Rattle.stack_code.specs.Machine as spec;
+ghost use Rattle.stack_code.specs.Things as things;
 ghost use Rattle.program_things.specs.Kinds.{cast_fits, told_as};
 ghost use Rattle.program_things.specs.Steps.{ChargesText, IsStep};
 ghost use Rattle.value_texts.specs.Texts.{text_of};
@@ -24,8 +24,8 @@ use apex_requests::Ticket;
 use apex_schema::Schema;
 use builtin_table::ExceptionClass;
 use platform_errors::Thrown;
-use program_code::{Config, Image};
 use save_procedure::charge_items;
+use stack_code::{Config, Image};
 use std::alloc::Global;
 use txn_heap::{Exception, Heap, Instance, Record, Ref, Thing, Value};
 use value_texts::charged_text;
@@ -54,7 +54,7 @@ pub fn act_exception(
 {
     let values = take_values(alloc, count, &mut c.top.stack)?;
     let message = message_given(values.as_slice())?;
-    make_thing(alloc, Thing::Exception(Exception { class, message }), c)
+    make_thing(Thing::Exception(Exception { class, message }), c)
 }
 
 // An instance with another message.
@@ -202,7 +202,7 @@ fn record_next(
 {
     let pairs = pair_count(fields, values.as_slice());
     match charge_items(&mut c.world.txn.meter, 32, 32, pairs) {
-        Err(limit) => Ok(limited(alloc, limit, c)),
+        Err(limit) => Ok(limited(limit, c)),
         Ok(()) => {
             let cells = new_cells(alloc, schema.objects.get(object), fields, values)?;
             made_next(Thing::Record(Record { object, cells }), c)
@@ -240,7 +240,7 @@ fn text_charged(
     let meter = &mut c.world.txn.meter;
     match charged_text(alloc, schema, names, &c.world.heap, value, meter)? {
         Ok(text) => Ok(Ok(text)),
-        Err(limit) => Ok(Err(limited(alloc, limit, c))),
+        Err(limit) => Ok(Err(limited(limit, c))),
     }
 }
 

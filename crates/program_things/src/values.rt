@@ -4,9 +4,9 @@ ghost use Rattle.std.specs.Prelude.{◌≡◌, ◌<◌, ◌+◌, ◌^◌, ◌∷
 ghost use Rattle.apex_num.specs.declared.cell.Cell.TheVariants as C;
 ghost use Rattle.txn_heap.specs.declared.thing.Value.TheVariants.{Plain};
 ghost use Rattle.value_operators.specs.Operators as operators;
-ghost use Rattle.program_code.specs.Machine as spec;
-ghost use Rattle.program_code.specs.Steps as steps;
-ghost use Rattle.program_code.specs.Things as things;
+ghost use Rattle.stack_code.specs.Machine as spec;
+ghost use Rattle.stack_code.specs.Steps as steps;
+ghost use Rattle.stack_code.specs.Things as things;
 ghost use Rattle.program_things.specs.Steps.{IsStep};
 
 use crate::charges::charge_sized;
@@ -14,7 +14,7 @@ use crate::moved::Moved;
 use crate::operands::{next, next_with, raise, take};
 use apex_num::{Cell, NoMemory};
 use platform_errors::Thrown;
-use program_code::Config;
+use stack_code::Config;
 use std::alloc::Global;
 use txn_heap::Value;
 use typed_program::{Conversion, Number, TypedOp};
@@ -130,7 +130,7 @@ fn join_next(alloc: Global, v: &Value, w: &Value, c: &mut Config) -> Result<Move
     requires { c.old.top.pc + 1 < 2 ^ 64 }
     ensures { IfOk result (λ m. IsStep (things.text_next (operators.joined v.now w.now) c.old c.old.top.stack) m c.new) }
 {
-    match charge_sized(alloc, Some(joined_size(v, w) as u64), c) {
+    match charge_sized(Some(joined_size(v, w) as u64), c) {
         Some(moved) => Ok(moved),
         None => {
             let text = joined(alloc, v, w)?;

@@ -2,14 +2,14 @@
 
 ghost use Rattle.std.specs.Prelude.{◌≡◌, ◌≤◌, ◌<◌, ◌+◌, ◌^◌, ◌∷◌, [], cond, slice_get, slice_index_or, length, IfOk, OnOk};
 ghost use Rattle.std.specs.Option.{option_copied};
-ghost use Rattle.apex_meaning.specs.States.{put_at as put_there};
-ghost use Rattle.apex_meaning.specs.Values.{null};
+ghost use Rattle.request_states.specs.States.{put_at as put_there};
+ghost use Rattle.request_states.specs.Values.{null};
 ghost use Rattle.heap_methods.specs.Operands.{or_null};
 ghost use Rattle.txn_heap.specs.Statics.{static_at};
 ghost use Rattle.txn_heap.specs.declared.thing.Value.{Value as AnyValue};
-ghost use Rattle.program_code.specs.declared.code.Slot.TheVariants as S;
-ghost use Rattle.program_code.specs.Machine as spec;
-ghost use Rattle.program_code.specs.Things as things;
+ghost use Rattle.stack_code.specs.declared.code.Slot.TheVariants as S;
+ghost use Rattle.stack_code.specs.Machine as spec;
+ghost use Rattle.stack_code.specs.Things as things;
 ghost use Rattle.program_things.specs.Steps.{IsStep};
 ghost use Rattle.program_things.specs.Variables.{field_at, field_of, instance_at, is_instance};
 
@@ -21,7 +21,7 @@ use apex_list::Items;
 use apex_num::{Cell, NoMemory};
 use builtin_table::{Builtin, ListMethod};
 use platform_errors::Thrown;
-use program_code::{Config, Slot};
+use stack_code::{Config, Slot};
 use std::alloc::Global;
 use txn_heap::{Heap, Ref, Statics, Thing, Value};
 

@@ -1,15 +1,15 @@
 -- How what is left of some code weighs, and how bodies weigh.
 use Rattle.std.proofs.Common.{◌≡◌, ℕ, zero, suc, ◌+◌, ◌*◌, ◌≤◌, Bool, true, false, cond, List, [], ◌∷◌, length, drop, Option, Some, None, refl, ap, ◌∙◌, subst, arith, le_refl}
 use Rattle.std.specs.Prelude.{slice_get, IsTrue, All}
-use Rattle.program_code.specs.Checked.{is_charging, ChargesAt, FineAt, IsFineClass, IsChecked}
-use Rattle.program_code.specs.Machine.{instrs_at, instrs_of, of_class, some_code}
-use Rattle.program_code.specs.declared.code.Instr.{Instr}
-use Rattle.program_code.specs.declared.code.Instr.TheVariants as I
-use Rattle.program_code.specs.declared.image.ClassCode.{ClassCode}
-use Rattle.program_code.specs.declared.image.Code.{Code}
-use Rattle.program_code.specs.declared.image.Image.{Image}
-use Rattle.program_code.specs.declared.state.BodyAt.{BodyAt}
-use Rattle.program_code.specs.declared.state.BodyAt.TheVariants as B
+use Rattle.stack_code.specs.Checked.{is_charging, ChargesAt, FineAt, IsFineClass, IsChecked}
+use Rattle.stack_code.specs.Machine.{instrs_at, instrs_of, of_class, some_code}
+use Rattle.stack_code.specs.declared.code.Instr.{Instr}
+use Rattle.stack_code.specs.declared.code.Instr.TheVariants as I
+use Rattle.stack_code.specs.declared.image.ClassCode.{ClassCode}
+use Rattle.stack_code.specs.declared.image.Code.{Code}
+use Rattle.stack_code.specs.declared.image.Image.{Image}
+use Rattle.stack_code.specs.declared.state.BodyAt.{BodyAt}
+use Rattle.stack_code.specs.declared.state.BodyAt.TheVariants as B
 use Rattle.program_weights.specs.Weights.{begins, full, rest, codes_full, blocks_full, classes_full, fields_full, begun, body_most, at}
 
 -- ---- what is left of some code

@@ -6,7 +6,7 @@ use Rattle.activations.specs.declared.abrupt.Raised.TheVariants.{Platform}
 use Rattle.activations.specs.declared.here.Here.{Here}
 use Rattle.apex_num.specs.declared.cell.Cell.TheVariants as C
 use Rattle.apex_num.specs.declared.kind.LimitKind.TheVariants as K
-use Rattle.language_meaning.specs.Exceptions.{Kind, Nothing, BuiltIn, Declared}
+use Rattle.apex_meaning.specs.Exceptions.{Kind, Nothing, BuiltIn, Declared}
 use Rattle.platform_errors.specs.declared.thrown.Thrown.TheVariants.{NullObject}
 use Rattle.save_procedure.specs.Does.{Paid}
 use Rattle.txn_heap.specs.declared.thing.Value.{Value}
@@ -14,26 +14,26 @@ use Rattle.txn_heap.specs.declared.thing.Value.TheVariants.{Plain, Object}
 use Rattle.typed_program.specs.declared.expr.Conversion.{Conversion}
 use Rattle.value_operators.specs.Operators.{Calc, converted}
 use Rattle.value_operators.specs.declared.calculated.Calculated.TheVariants.{Val, Fails}
-use Rattle.program_code.specs.Calls.{begin, call, call_by_kind, call_found, call_on, call_this, chain_or, instance_of, new_next, new_plain_next, prepare_next, starts_or, target, units_or}
-use Rattle.program_code.specs.Checked.{FineAt, IsChecked, IsFine, IsFineBlock, IsFineClass, IsFineCode, is_charging}
-use Rattle.program_code.specs.Machine.{Next, Goes, charged, class_code, instrs_at, instrs_of, next, of_class, on_calc, on_truth, raise, some_code, with_handlers, with_local}
-use Rattle.program_code.specs.Steps.{both, each_item, either, jump, on_handler, open_each, opened, resume, unless}
-use Rattle.program_code.specs.declared.code.Instr.{Instr}
-use Rattle.program_code.specs.declared.code.Instr.TheVariants as I
-use Rattle.program_code.specs.declared.image.ClassCode.{ClassCode}
-use Rattle.program_code.specs.declared.image.Code.{Code}
-use Rattle.program_code.specs.declared.image.Image.{Image}
-use Rattle.program_code.specs.declared.image.MethodAt.{MethodAt}
-use Rattle.program_code.specs.declared.image.Starts.{Starts}
-use Rattle.program_code.specs.declared.state.After.{After}
-use Rattle.program_code.specs.declared.state.After.TheVariants as A
-use Rattle.program_code.specs.declared.state.BodyAt.{BodyAt}
-use Rattle.program_code.specs.declared.state.BodyAt.TheVariants as B
-use Rattle.program_code.specs.declared.state.Frame.{Frame}
-use Rattle.program_code.specs.declared.state.Handler.{Handler}
-use Rattle.program_code.specs.declared.state.Handler.TheVariants as H
-use Rattle.program_code.specs.declared.state.Waiting.{Waiting}
-use Rattle.program_code.specs.declared.state.World.{World}
+use Rattle.stack_code.specs.Calls.{begin, call, call_by_kind, call_found, call_on, call_this, chain_or, instance_of, new_next, new_plain_next, prepare_next, starts_or, target, units_or}
+use Rattle.stack_code.specs.Checked.{FineAt, IsChecked, IsFine, IsFineBlock, IsFineClass, IsFineCode, is_charging}
+use Rattle.stack_code.specs.Machine.{Next, Goes, charged, class_code, instrs_at, instrs_of, next, of_class, on_calc, on_truth, raise, some_code, with_handlers, with_local}
+use Rattle.stack_code.specs.Steps.{both, each_item, either, jump, on_handler, open_each, opened, resume, unless}
+use Rattle.stack_code.specs.declared.code.Instr.{Instr}
+use Rattle.stack_code.specs.declared.code.Instr.TheVariants as I
+use Rattle.stack_code.specs.declared.image.ClassCode.{ClassCode}
+use Rattle.stack_code.specs.declared.image.Code.{Code}
+use Rattle.stack_code.specs.declared.image.Image.{Image}
+use Rattle.stack_code.specs.declared.image.MethodAt.{MethodAt}
+use Rattle.stack_code.specs.declared.image.Starts.{Starts}
+use Rattle.stack_code.specs.declared.state.After.{After}
+use Rattle.stack_code.specs.declared.state.After.TheVariants as A
+use Rattle.stack_code.specs.declared.state.BodyAt.{BodyAt}
+use Rattle.stack_code.specs.declared.state.BodyAt.TheVariants as B
+use Rattle.stack_code.specs.declared.state.Frame.{Frame}
+use Rattle.stack_code.specs.declared.state.Handler.{Handler}
+use Rattle.stack_code.specs.declared.state.Handler.TheVariants as H
+use Rattle.stack_code.specs.declared.state.Waiting.{Waiting}
+use Rattle.stack_code.specs.declared.state.World.{World}
 use Rattle.program_weights.specs.Keeps.{AreOpen, AreWaiting, Falls}
 use Rattle.program_weights.specs.Weights.{begins, begun, classes_full, fields_full, full, handlers_load, left, round}
 use Rattle.program_weights.proofs.Codes.{all_at, charges_zero, free_at, full_some, later}

@@ -5,15 +5,15 @@ use Rattle.activations.specs.declared.abrupt.Abrupt.{Abrupt}
 use Rattle.activations.specs.declared.abrupt.Abrupt.TheVariants.{Throws, Returns, Breaks, Continues}
 use Rattle.activations.specs.declared.abrupt.Raised.TheVariants.{Platform, Made}
 use Rattle.activations.specs.declared.here.Here.{Here}
-use Rattle.apex_meaning.specs.Values.{null}
-use Rattle.apex_meaning.specs.Statements.{records_of}
+use Rattle.request_states.specs.Values.{null}
+use Rattle.request_states.specs.Statements.{records_of}
 use Rattle.apex_num.specs.declared.cell.Cell.TheVariants as C
 use Rattle.apex_num.specs.declared.kind.LimitKind.TheVariants as K
 use Rattle.apex_rows.specs.declared.query.Answer.{Answer}
 use Rattle.heap_methods.specs.Making.{copied}
-use Rattle.language_meaning.specs.Collections.{collection, message_among}
-use Rattle.language_meaning.specs.Exceptions.{is_built_in}
-use Rattle.language_meaning.specs.Statements.{items_of}
+use Rattle.apex_meaning.specs.Collections.{collection, message_among}
+use Rattle.apex_meaning.specs.Exceptions.{is_built_in}
+use Rattle.apex_meaning.specs.Statements.{items_of}
 use Rattle.limit_meter.specs.Charges.{count_of, limit_of}
 use Rattle.platform_errors.specs.declared.thrown.Thrown.TheVariants.{NullObject}
 use Rattle.save_meaning.specs.Counts.{count_of as rows_counted}
@@ -24,23 +24,23 @@ use Rattle.txn_heap.specs.declared.thing.Thing.TheVariants as T
 use Rattle.txn_heap.specs.declared.thing.Value.{Value}
 use Rattle.txn_heap.specs.declared.thing.Value.TheVariants.{Plain, Object}
 use Rattle.value_operators.specs.Operators.{converted, negated, truth}
-use Rattle.program_code.specs.Checked.{IsChecked, is_charging}
-use Rattle.program_code.specs.Machine.{Goes, charged_if, in_mode, instrs_at, move, next, raise, taken}
-use Rattle.program_code.specs.Steps.{act, count_next, counted, insert_next, step, thrown}
-use Rattle.program_code.specs.Things.{is_declared}
-use Rattle.program_code.specs.declared.code.Counting.{Counting}
-use Rattle.program_code.specs.declared.code.Instr.{Instr}
-use Rattle.program_code.specs.declared.code.Instr.TheVariants as I
-use Rattle.program_code.specs.declared.image.Image.{Image}
-use Rattle.program_code.specs.declared.state.After.TheVariants as A
-use Rattle.program_code.specs.declared.state.BodyAt.{BodyAt}
-use Rattle.program_code.specs.declared.state.BodyAt.TheVariants as B
-use Rattle.program_code.specs.declared.state.Config.{Config}
-use Rattle.program_code.specs.declared.state.Handler.{Handler}
-use Rattle.program_code.specs.declared.state.Mode.{Mode}
-use Rattle.program_code.specs.declared.state.Mode.TheVariants as M
-use Rattle.program_code.specs.declared.state.Waiting.{Waiting}
-use Rattle.program_code.specs.declared.state.World.{World}
+use Rattle.stack_code.specs.Checked.{IsChecked, is_charging}
+use Rattle.stack_code.specs.Machine.{Goes, charged_if, in_mode, instrs_at, move, next, raise, taken}
+use Rattle.stack_code.specs.Steps.{act, count_next, counted, insert_next, step, thrown}
+use Rattle.stack_code.specs.Things.{is_declared}
+use Rattle.stack_code.specs.declared.code.Counting.{Counting}
+use Rattle.stack_code.specs.declared.code.Instr.{Instr}
+use Rattle.stack_code.specs.declared.code.Instr.TheVariants as I
+use Rattle.stack_code.specs.declared.image.Image.{Image}
+use Rattle.stack_code.specs.declared.state.After.TheVariants as A
+use Rattle.stack_code.specs.declared.state.BodyAt.{BodyAt}
+use Rattle.stack_code.specs.declared.state.BodyAt.TheVariants as B
+use Rattle.stack_code.specs.declared.state.Config.{Config}
+use Rattle.stack_code.specs.declared.state.Handler.{Handler}
+use Rattle.stack_code.specs.declared.state.Mode.{Mode}
+use Rattle.stack_code.specs.declared.state.Mode.TheVariants as M
+use Rattle.stack_code.specs.declared.state.Waiting.{Waiting}
+use Rattle.stack_code.specs.declared.state.World.{World}
 use Rattle.program_weights.specs.Keeps.{AreOpen, AreWaiting, Falls, Stands}
 use Rattle.program_weights.specs.Weights.{at, begun, handlers_load, left, round, waiting_load, weight}
 use Rattle.program_weights.proofs.Codes.{free_at, full_some, later}

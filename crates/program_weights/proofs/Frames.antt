@@ -5,27 +5,27 @@ use Rattle.std.proofs.lemmas.List.{length-reverse}
 use Rattle.std.proofs.lemmas.Nat.{mul-le}
 use Rattle.std.specs.Prelude.{leb, All}
 use Rattle.activations.specs.declared.here.Here.{Here}
-use Rattle.apex_meaning.specs.Values.{null}
+use Rattle.request_states.specs.Values.{null}
 use Rattle.apex_num.specs.declared.kind.LimitKind.TheVariants as K
-use Rattle.language_meaning.specs.Preparing.{unprepared}
+use Rattle.apex_meaning.specs.Preparing.{unprepared}
 use Rattle.limit_meter.specs.Charges.{count_of, limit_of}
 use Rattle.save_procedure.specs.Does.{Paid}
 use Rattle.txn_heap.specs.Statics.{is_prepared}
 use Rattle.txn_heap.specs.declared.thing.Value.{Value}
-use Rattle.program_code.specs.Calls.{activation, call, declared_first, enter, enter_fields, enter_statics, marked}
-use Rattle.program_code.specs.Checked.{IsChecked}
-use Rattle.program_code.specs.Machine.{Goes, charged, charged_if, instrs_at}
-use Rattle.program_code.specs.declared.image.Image.{Image}
-use Rattle.program_code.specs.declared.image.MethodAt.{MethodAt}
-use Rattle.program_code.specs.declared.state.After.{After}
-use Rattle.program_code.specs.declared.state.After.TheVariants as A
-use Rattle.program_code.specs.declared.state.BodyAt.{BodyAt}
-use Rattle.program_code.specs.declared.state.BodyAt.TheVariants as B
-use Rattle.program_code.specs.declared.state.Config.{Config}
-use Rattle.program_code.specs.declared.state.Frame.{Frame}
-use Rattle.program_code.specs.declared.state.Mode.TheVariants as M
-use Rattle.program_code.specs.declared.state.Waiting.{Waiting}
-use Rattle.program_code.specs.declared.state.World.{World}
+use Rattle.stack_code.specs.Calls.{activation, call, declared_first, enter, enter_fields, enter_statics, marked}
+use Rattle.stack_code.specs.Checked.{IsChecked}
+use Rattle.stack_code.specs.Machine.{Goes, charged, charged_if, instrs_at}
+use Rattle.stack_code.specs.declared.image.Image.{Image}
+use Rattle.stack_code.specs.declared.image.MethodAt.{MethodAt}
+use Rattle.stack_code.specs.declared.state.After.{After}
+use Rattle.stack_code.specs.declared.state.After.TheVariants as A
+use Rattle.stack_code.specs.declared.state.BodyAt.{BodyAt}
+use Rattle.stack_code.specs.declared.state.BodyAt.TheVariants as B
+use Rattle.stack_code.specs.declared.state.Config.{Config}
+use Rattle.stack_code.specs.declared.state.Frame.{Frame}
+use Rattle.stack_code.specs.declared.state.Mode.TheVariants as M
+use Rattle.stack_code.specs.declared.state.Waiting.{Waiting}
+use Rattle.stack_code.specs.declared.state.World.{World}
 use Rattle.program_weights.specs.Keeps.{AreOpen, AreWaiting, Falls, Stands}
 use Rattle.program_weights.specs.Weights.{begun, body_most, fields_full, frame_load, left, round, waiting_load}
 use Rattle.program_weights.proofs.Codes.{at_le, field_values_le, later}

@@ -6,27 +6,27 @@ use Rattle.activations.specs.declared.abrupt.Abrupt.TheVariants.{Throws, Returns
 use Rattle.activations.specs.declared.abrupt.Raised.{Raised}
 use Rattle.activations.specs.declared.abrupt.Raised.TheVariants.{Platform, Made}
 use Rattle.activations.specs.declared.here.Here.{Here}
-use Rattle.language_meaning.specs.Exceptions.{kind_of}
+use Rattle.apex_meaning.specs.Exceptions.{kind_of}
 use Rattle.save_meaning.specs.Sites.{Site}
 use Rattle.save_procedure.specs.Does.{Paid}
 use Rattle.txn_heap.specs.declared.thing.Value.{Value}
-use Rattle.program_code.specs.Checked.{IsChecked}
-use Rattle.program_code.specs.Machine.{Goes, closed, instrs_at}
-use Rattle.program_code.specs.Steps.{caught, caught_at, caught_by, clause_for, leaving, left_by, met}
-use Rattle.program_code.specs.declared.code.Instr.{Instr}
-use Rattle.program_code.specs.declared.code.Instr.TheVariants as I
-use Rattle.program_code.specs.declared.image.Clause.{Clause}
-use Rattle.program_code.specs.declared.image.Image.{Image}
-use Rattle.program_code.specs.declared.state.After.{After}
-use Rattle.program_code.specs.declared.state.After.TheVariants as A
-use Rattle.program_code.specs.declared.state.BodyAt.{BodyAt}
-use Rattle.program_code.specs.declared.state.Config.{Config}
-use Rattle.program_code.specs.declared.state.Frame.{Frame}
-use Rattle.program_code.specs.declared.state.Handler.{Handler}
-use Rattle.program_code.specs.declared.state.Handler.TheVariants as H
-use Rattle.program_code.specs.declared.state.Mode.TheVariants as M
-use Rattle.program_code.specs.declared.state.Waiting.{Waiting}
-use Rattle.program_code.specs.declared.state.World.{World}
+use Rattle.stack_code.specs.Checked.{IsChecked}
+use Rattle.stack_code.specs.Machine.{Goes, closed, instrs_at}
+use Rattle.stack_code.specs.Steps.{caught, caught_at, caught_by, clause_for, leaving, left_by, met}
+use Rattle.stack_code.specs.declared.code.Instr.{Instr}
+use Rattle.stack_code.specs.declared.code.Instr.TheVariants as I
+use Rattle.stack_code.specs.declared.image.Clause.{Clause}
+use Rattle.stack_code.specs.declared.image.Image.{Image}
+use Rattle.stack_code.specs.declared.state.After.{After}
+use Rattle.stack_code.specs.declared.state.After.TheVariants as A
+use Rattle.stack_code.specs.declared.state.BodyAt.{BodyAt}
+use Rattle.stack_code.specs.declared.state.Config.{Config}
+use Rattle.stack_code.specs.declared.state.Frame.{Frame}
+use Rattle.stack_code.specs.declared.state.Handler.{Handler}
+use Rattle.stack_code.specs.declared.state.Handler.TheVariants as H
+use Rattle.stack_code.specs.declared.state.Mode.TheVariants as M
+use Rattle.stack_code.specs.declared.state.Waiting.{Waiting}
+use Rattle.stack_code.specs.declared.state.World.{World}
 use Rattle.program_weights.specs.Keeps.{AreOpen, AreWaiting, Falls}
 use Rattle.program_weights.specs.Weights.{at, begun, handler_load, handlers_load, left, round, waiting_load}
 use Rattle.program_weights.proofs.Codes.{charges_zero, later}

@@ -14,10 +14,10 @@ use Rattle.txn_heap.specs.Statics.{is_prepared, of_class, prepare, with_static}
 use Rattle.txn_heap.specs.declared.thing.Value.{Value}
 use Rattle.txn_heap.specs.declared.thing.Value.TheVariants.{Plain}
 use Rattle.apex_num.specs.declared.cell.Cell.TheVariants.{Null}
-use Rattle.program_code.specs.Calls.{marked, statics_or}
-use Rattle.program_code.specs.Machine.{class_code}
-use Rattle.program_code.specs.declared.image.Image.{Image}
-use Rattle.program_code.specs.declared.state.World.{World}
+use Rattle.stack_code.specs.Calls.{marked, statics_or}
+use Rattle.stack_code.specs.Machine.{class_code}
+use Rattle.stack_code.specs.declared.image.Image.{Image}
+use Rattle.stack_code.specs.declared.state.World.{World}
 use Rattle.program_weights.specs.Weights.{left, missing, unready}
 
 -- ---- sums

@@ -11,16 +11,16 @@ use Rattle.limit_meter.specs.Charges.{count_of, limit_of}
 use Rattle.platform_errors.specs.declared.thrown.Thrown.{Thrown}
 use Rattle.save_procedure.specs.Does.{Paid}
 use Rattle.txn_heap.specs.declared.thing.Value.{Value}
-use Rattle.program_code.specs.Checked.{IsChecked, is_charging}
-use Rattle.program_code.specs.Machine.{Next, Goes, charged, charged_if, instrs_at, next, raise}
-use Rattle.program_code.specs.declared.code.Instr.{Instr}
-use Rattle.program_code.specs.declared.image.Image.{Image}
-use Rattle.program_code.specs.declared.state.BodyAt.{BodyAt}
-use Rattle.program_code.specs.declared.state.Config.{Config}
-use Rattle.program_code.specs.declared.state.Handler.{Handler}
-use Rattle.program_code.specs.declared.state.Mode.TheVariants as M
-use Rattle.program_code.specs.declared.state.Waiting.{Waiting}
-use Rattle.program_code.specs.declared.state.World.{World}
+use Rattle.stack_code.specs.Checked.{IsChecked, is_charging}
+use Rattle.stack_code.specs.Machine.{Next, Goes, charged, charged_if, instrs_at, next, raise}
+use Rattle.stack_code.specs.declared.code.Instr.{Instr}
+use Rattle.stack_code.specs.declared.image.Image.{Image}
+use Rattle.stack_code.specs.declared.state.BodyAt.{BodyAt}
+use Rattle.stack_code.specs.declared.state.Config.{Config}
+use Rattle.stack_code.specs.declared.state.Handler.{Handler}
+use Rattle.stack_code.specs.declared.state.Mode.TheVariants as M
+use Rattle.stack_code.specs.declared.state.Waiting.{Waiting}
+use Rattle.stack_code.specs.declared.state.World.{World}
 use Rattle.program_weights.specs.Keeps.{AreOpen, AreWaiting, Falls}
 use Rattle.program_weights.specs.Weights.{at, begun, full, handlers_load, left, round, waiting_load}
 use Rattle.program_weights.proofs.Codes.{at_le, end_at, free_at, full_some, later}

@@ -2,8 +2,8 @@
 use Rattle.std.proofs.Common.{ℕ, ◌+◌, ◌*◌, ◌≤◌, Bool, true, false, cond, List, [], ◌∷◌, ◌++◌, length, map, Option, Some, None, arith}
 use Rattle.std.specs.Prelude.{leb, slice_get, slice_index_or}
 use Rattle.activations.specs.declared.here.Here.{Here}
-use Rattle.apex_meaning.specs.States.{put_at}
-use Rattle.apex_meaning.specs.Values.{null}
+use Rattle.request_states.specs.States.{put_at}
+use Rattle.request_states.specs.Values.{null}
 use Rattle.apex_num.specs.declared.cell.Cell.{Cell}
 use Rattle.apex_num.specs.declared.cell.Cell.TheVariants as C
 use Rattle.apex_num.specs.declared.kind.LimitKind.{LimitKind}
@@ -21,9 +21,9 @@ use Rattle.builtin_table.specs.declared.method.PlatformMethod.TheVariants as P
 use Rattle.heap_methods.specs.Making.{set_of}
 use Rattle.heap_methods.specs.Methods.{method, units}
 use Rattle.heap_methods.specs.Outcomes.{Outcome, Done, Answers, Throws as Thrown', done as things_done, units_of}
-use Rattle.language_meaning.specs.Builtins.{cell_in, first_of, rest_of}
-use Rattle.language_meaning.specs.Exceptions.{Kind, Nothing, BuiltIn, Declared, kind_of_thing, message_of_thing}
-use Rattle.language_meaning.specs.Places.{cell_or_null, setting_units, with_cell}
+use Rattle.apex_meaning.specs.Builtins.{cell_in, first_of, rest_of}
+use Rattle.apex_meaning.specs.Exceptions.{Kind, Nothing, BuiltIn, Declared, kind_of_thing, message_of_thing}
+use Rattle.apex_meaning.specs.Places.{cell_or_null, setting_units, with_cell}
 use Rattle.limit_meter.specs.Charges.{count_of, limit_of}
 use Rattle.platform_errors.specs.declared.thrown.Thrown.{Thrown}
 use Rattle.platform_errors.specs.declared.thrown.Thrown.TheVariants.{NullObject, Builtin, InvalidConversion}
@@ -46,18 +46,18 @@ use Rattle.typed_program.specs.declared.expr.TypedOp.TheVariants as Op
 use Rattle.value_operators.specs.Operators.{Calc, applied, joined, stepped}
 use Rattle.value_operators.specs.declared.calculated.Calculated.TheVariants.{Val, Fails}
 use Rattle.value_texts.specs.Texts.{text_of}
-use Rattle.program_code.specs.Machine.{Next, charged, charged_if, next, on_calc, on_top, on_truth, raise, taken, with_heap, with_line, with_statics}
-use Rattle.program_code.specs.Steps.{operator_next}
-use Rattle.program_code.specs.Things.{answered_next, builtin_next, cast_if, cast_next, change_next, cell_loaded, cell_of_thing, cell_stored, collection, copied_next, done_next, fetch_next, field_loaded, field_of_thing, field_stored, filled_next, get_next, if_exception, loaded, make_for, message_next, null_loaded, on_exception, parts_of, platform_next, print_next, set_cell_in_thing, set_in_thing, set_message, set_next, sized_next, stored, text_next}
-use Rattle.program_code.specs.declared.code.Slot.{Slot}
-use Rattle.program_code.specs.declared.code.Slot.TheVariants as S
-use Rattle.program_code.specs.declared.image.Image.{Image}
-use Rattle.program_code.specs.declared.state.BodyAt.{BodyAt}
-use Rattle.program_code.specs.declared.state.Config.{Config}
-use Rattle.program_code.specs.declared.state.Handler.{Handler}
-use Rattle.program_code.specs.declared.state.Mode.TheVariants as M
-use Rattle.program_code.specs.declared.state.Waiting.{Waiting}
-use Rattle.program_code.specs.declared.state.World.{World}
+use Rattle.stack_code.specs.Machine.{Next, charged, charged_if, next, on_calc, on_top, on_truth, raise, taken, with_heap, with_line, with_statics}
+use Rattle.stack_code.specs.Steps.{operator_next}
+use Rattle.stack_code.specs.Things.{answered_next, builtin_next, cast_if, cast_next, change_next, cell_loaded, cell_of_thing, cell_stored, collection, copied_next, done_next, fetch_next, field_loaded, field_of_thing, field_stored, filled_next, get_next, if_exception, loaded, make_for, message_next, null_loaded, on_exception, parts_of, platform_next, print_next, set_cell_in_thing, set_in_thing, set_message, set_next, sized_next, stored, text_next}
+use Rattle.stack_code.specs.declared.code.Slot.{Slot}
+use Rattle.stack_code.specs.declared.code.Slot.TheVariants as S
+use Rattle.stack_code.specs.declared.image.Image.{Image}
+use Rattle.stack_code.specs.declared.state.BodyAt.{BodyAt}
+use Rattle.stack_code.specs.declared.state.Config.{Config}
+use Rattle.stack_code.specs.declared.state.Handler.{Handler}
+use Rattle.stack_code.specs.declared.state.Mode.TheVariants as M
+use Rattle.stack_code.specs.declared.state.Waiting.{Waiting}
+use Rattle.stack_code.specs.declared.state.World.{World}
 use Rattle.program_weights.specs.Keeps.{Falls}
 use Rattle.program_weights.specs.Weights.{left}
 use Rattle.program_weights.proofs.Lefts.{charging, charged_paid, charged_left, with_static_unready}

@@ -12,21 +12,21 @@ use Rattle.record_store.specs.Places.{answer_to}
 use Rattle.save_procedure.specs.Does.{IsRead}
 use Rattle.tenant_trails.specs.Runs as Trail
 use Rattle.tenant_trails.specs.Runs.{Follows, Evaluates, ids_asked, ids_of_run, grabs_on}
-use Rattle.apex_meaning.specs.Runs.{Setting, block_at}
-use Rattle.language_meaning.specs.Runs.{block_run}
-use Rattle.program_code.specs.Means.{Means}
-use Rattle.program_code.specs.Runs.{start}
-use Rattle.program_code.specs.declared.image.Image.{Image}
+use Rattle.request_states.specs.Runs.{Setting, block_at}
+use Rattle.apex_meaning.specs.Runs.{block_run}
+use Rattle.stack_code.specs.Means.{Means}
+use Rattle.stack_code.specs.Runs.{start}
+use Rattle.stack_code.specs.declared.image.Image.{Image}
 use Rattle.typed_program.specs.declared.program.Program.{Program}
 use Rattle.typed_program.specs.declared.stmt.TypedStmt.{TypedStmt}
-use Rattle.program_machine.specs.declared.run.Pause.TheVariants as P
-use Rattle.program_machine.specs.declared.run.Vm.{Vm}
+use Rattle.metered_vm.specs.declared.run.Pause.TheVariants as P
+use Rattle.metered_vm.specs.declared.run.Vm.{Vm}
 use Rattle.tenant_core.specs.Logs.{AreCurrent, AsksRows, IsCurrent}
 use Rattle.tenant_core.specs.declared.log.Log.{Log}
 use Rattle.tenant_core.specs.Shards.{Shared}
 use Rattle.record_store.specs.Heaps.{rows_in}
-use Rattle.program_machine.specs.Keeps.{Stands}
-use Rattle.program_machine.specs.Runs.{Comes, Ran, Pauses, Waits, plain, told}
+use Rattle.metered_vm.specs.Keeps.{Stands}
+use Rattle.metered_vm.specs.Runs.{Comes, Ran, Pauses, Waits, plain, told}
 use Rattle.session_runs.specs.Blocks.{Answered, RunsTo, IsAt, told_of}
 use Rattle.session_runs.specs.Laws.{ImagesEvaluateBlocks}
 

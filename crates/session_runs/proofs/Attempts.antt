@@ -15,7 +15,7 @@ use Rattle.tenant_core.specs.Logs.{AreCurrent, IsCurrent, IsStale, IsStaleAt}
 use Rattle.tenant_core.specs.declared.log.Log.{Log}
 use Rattle.tenant_core.specs.Shards.{Shared, Closing, told_at}
 use Rattle.tenant_trails.specs.Legal.{Session, begun}
-use Rattle.program_code.specs.declared.image.Image.{Image}
+use Rattle.stack_code.specs.declared.image.Image.{Image}
 use Rattle.session_runs.specs.Sessions.{closed_session, EndsWork, IsRun, StandsAt, ticket_of}
 use Rattle.session_runs.proofs.Legality.{in_mid, in_old, may_end}
 

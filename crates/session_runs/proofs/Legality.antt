@@ -14,20 +14,20 @@ use Rattle.apex_rows.specs.declared.row.Writes.{Writes}
 use Rattle.apex_schema.specs.declared.schema.Schema.{Schema}
 use Rattle.row_meaning.specs.Stores.{taken}
 use Rattle.session_runs.specs.Laws.{ImagesEvaluateBlocks}
-use Rattle.apex_meaning.specs.Refusals.{no_writes}
+use Rattle.request_states.specs.Refusals.{no_writes}
 use Rattle.tenant_trails.specs.SessionLaws.{state, StartsAreLegal, EndsAreLegal}
 use Rattle.record_ids.specs.Ids.{most}
 use Rattle.tenant_trails.specs.States.{Told, Starts, MayStart, MayEnd}
 use Rattle.tenant_trails.specs.Legal.{Session, State, Step, begun, tell, some_writes, first_state, LegalFrom, Closed}
 use Rattle.tenant_trails.specs.Runs.{Run, Ends, Evaluates, Tenant}
-use Rattle.program_code.specs.Means.{Means, block_in, is_there}
-use Rattle.program_code.specs.declared.image.Code.{Code}
-use Rattle.program_code.specs.declared.image.Image.{Image}
+use Rattle.stack_code.specs.Means.{Means, block_in, is_there}
+use Rattle.stack_code.specs.declared.image.Code.{Code}
+use Rattle.stack_code.specs.declared.image.Image.{Image}
 use Rattle.typed_program.specs.declared.program.Program.{Program}
 use Rattle.typed_program.specs.declared.stmt.TypedStmt.{TypedStmt}
-use Rattle.apex_meaning.specs.Runs.{Setting, block_at}
-use Rattle.language_meaning.specs.Runs.{run, run_or}
-use Rattle.program_machine.specs.Runs.{plain}
+use Rattle.request_states.specs.Runs.{Setting, block_at}
+use Rattle.apex_meaning.specs.Runs.{run, run_or}
+use Rattle.metered_vm.specs.Runs.{plain}
 use Rattle.session_runs.specs.Replies.{open_in, Replies, RepliesOpen, RepliesAt, RunsFrom, IsRunOf}
 use Rattle.session_runs.specs.Sessions.{HaveUsers, request_run, tenant_of, EndsBlock, EndsWork, closed_session, StandsAt, ticket_of, IsRun}
 

@@ -12,11 +12,11 @@ use Rattle.apex_schema.specs.declared.schema.Schema.{Schema}
 use Rattle.record_store.specs.Places.{answer_to}
 use Rattle.save_procedure.specs.Does.{IsRead}
 use Rattle.tenant_trails.specs.Runs as Trail
-use Rattle.program_code.specs.Runs.{start}
-use Rattle.program_code.specs.declared.image.Image.{Image}
-use Rattle.program_machine.specs.declared.run.Vm.{Vm}
-use Rattle.program_machine.specs.Keeps.{Stands}
-use Rattle.program_machine.specs.Runs.{Comes, Ran, ops_of, most_told, plain, told}
+use Rattle.stack_code.specs.Runs.{start}
+use Rattle.stack_code.specs.declared.image.Image.{Image}
+use Rattle.metered_vm.specs.declared.run.Vm.{Vm}
+use Rattle.metered_vm.specs.Keeps.{Stands}
+use Rattle.metered_vm.specs.Runs.{Comes, Ran, ops_of, most_told, plain, told}
 
 -- the number of steps that a reply tells: a refused one tells none
 abbrev pub told_of : Outcome → ℕ → ℕ

@@ -8,11 +8,11 @@ use Rattle.apex_schema.specs.declared.schema.Schema.{Schema}
 use Rattle.tenant_trails.specs.Runs.{Evaluates}
 use Rattle.typed_program.specs.declared.program.Program.{Program}
 use Rattle.typed_program.specs.declared.stmt.TypedStmt.{TypedStmt}
-use Rattle.apex_meaning.specs.Runs.{block_at}
-use Rattle.language_meaning.specs.Runs.{block_run}
-use Rattle.program_code.specs.Means.{Means}
-use Rattle.program_code.specs.declared.image.Image.{Image}
-use Rattle.program_machine.specs.Runs.{plain}
+use Rattle.request_states.specs.Runs.{block_at}
+use Rattle.apex_meaning.specs.Runs.{block_run}
+use Rattle.stack_code.specs.Means.{Means}
+use Rattle.stack_code.specs.declared.image.Image.{Image}
+use Rattle.metered_vm.specs.Runs.{plain}
 use Rattle.session_runs.specs.Blocks.{RunsTo}
 
 -- what an image comes to on rows, from the start of a block, is what that block of the program comes to that it means

@@ -10,7 +10,7 @@ use Rattle.apex_rows.specs.declared.row.Writes.{Writes}
 use Rattle.apex_schema.specs.declared.schema.Schema.{Schema}
 use Rattle.tenant_trails.specs.Legal.{Open, Session, State, Step, first_state}
 use Rattle.tenant_trails.specs.Runs.{Tenant}
-use Rattle.program_code.specs.declared.image.Image.{Image}
+use Rattle.stack_code.specs.declared.image.Image.{Image}
 use Rattle.session_runs.specs.Sessions.{EndsWork, request_at, ticket_of}
 
 -- the open request of a session

@@ -12,14 +12,14 @@ use Rattle.apex_schema.specs.declared.schema.Schema.{Schema}
 use Rattle.row_meaning.specs.Stores.{taken}
 use Rattle.session_runs.specs.Blocks.{RunsTo}
 use Rattle.record_ids.specs.Ids.{most}
-use Rattle.apex_meaning.specs.Refusals.{refusal, not_yet, no_writes}
+use Rattle.request_states.specs.Refusals.{refusal, not_yet, no_writes}
 use Rattle.tenant_trails.specs.States.{Told, Starts, Ends as Closes}
 use Rattle.tenant_trails.specs.Legal.{Session, begun, some_writes}
 use Rattle.tenant_trails.specs.Runs.{Run, Ends, Tenant}
-use Rattle.language_meaning.specs.Runs.{run}
-use Rattle.program_code.specs.Means.{block_in}
-use Rattle.program_code.specs.declared.image.Code.{Code}
-use Rattle.program_code.specs.declared.image.Image.{Image}
+use Rattle.apex_meaning.specs.Runs.{run}
+use Rattle.stack_code.specs.Means.{block_in}
+use Rattle.stack_code.specs.declared.image.Code.{Code}
+use Rattle.stack_code.specs.declared.image.Image.{Image}
 use Rattle.typed_program.specs.declared.program.Program.{Program}
 
 -- ---- what a request does

@@ -2,20 +2,20 @@
 
 ghost use Rattle.std.specs.Prelude.{◌≡◌, [], IfOk};
 ghost use Rattle.record_store.specs.Heaps.{rows_in};
-ghost use Rattle.apex_meaning.specs.Refusals as refusals;
+ghost use Rattle.request_states.specs.Refusals as refusals;
 ghost use Rattle.tenant_core.specs.Logs.{IsCurrent};
 ghost use Rattle.save_procedure.specs.Does.{IsSound, HasIds};
-ghost use Rattle.program_code.specs.Checked.{IsChecked};
-ghost use Rattle.program_code.specs.Means.{block_in, is_there};
+ghost use Rattle.stack_code.specs.Checked.{IsChecked};
+ghost use Rattle.stack_code.specs.Means.{block_in, is_there};
 ghost use Rattle.session_runs.specs.Sessions.{EndsBlock, EndsWork};
 
 use crate::{Attempt, run_image};
-use apex_meaning::{no_writes, not_yet, refusal};
 use apex_num::NoMemory;
 use apex_requests::{Ticket, Work};
 use apex_schema::Schema;
 use fault_words::Fault;
-use program_code::Image;
+use request_states::{no_writes, not_yet, refusal};
+use stack_code::Image;
 use std::alloc::Global;
 use tenant_core::{Log, Shard};
 

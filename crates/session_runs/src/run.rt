@@ -5,7 +5,7 @@ ghost use Rattle.record_store.specs.Heaps.{rows_in};
 ghost use Rattle.record_store.specs.Places.{answer_to};
 ghost use Rattle.save_procedure.specs.Does.{IsSound, HasIds};
 ghost use Rattle.tenant_core.specs.Logs.{AsksRows, IsCurrent};
-ghost use Rattle.program_code.specs.Checked.{IsChecked};
+ghost use Rattle.stack_code.specs.Checked.{IsChecked};
 ghost use Rattle.session_runs.specs.Blocks.{IsAt, RunsTo, told_of};
 
 use apex_list::Items;
@@ -13,8 +13,8 @@ use apex_num::NoMemory;
 use apex_requests::{Outcome, Reply, Ticket};
 use apex_rows::{Answer, Question, Writes};
 use apex_schema::Schema;
-use program_code::Image;
-use program_machine::{Pause, Vm, resume, start};
+use metered_vm::{Pause, Vm, resume, start};
+use stack_code::Image;
 use std::alloc::{AllocError, Global};
 use tenant_core::{Log, Shard};
 

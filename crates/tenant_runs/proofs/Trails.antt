@@ -15,7 +15,7 @@ use Rattle.tenant_core.specs.Shards.{AreOpened, Shared, Tenants, seeded, told_at
 use Rattle.tenant_parts.specs.declared.part.TenantPart.{TenantPart}
 use Rattle.tenant_parts.specs.declared.session.Session.{Session}
 use Rattle.tenant_trails.specs.Legal.{first_state, Closed}
-use Rattle.program_code.specs.declared.image.Image.{Image}
+use Rattle.stack_code.specs.declared.image.Image.{Image}
 use Rattle.typed_program.specs.declared.program.Program.{Program}
 use Rattle.tenant_runs.specs.Steps.{first_requests, IsFew, IsNewFor, IsRunFirst}
 use Rattle.tenant_runs.specs.Tenants.{AreFew, IsTrail}

@@ -9,7 +9,7 @@ use Rattle.session_runs.specs.Sessions.{HaveUsers, IsNew, tenant_of}
 use Rattle.tenant_trails.specs.States.{Told}
 use Rattle.tenant_parts.specs.declared.session.Session.{Session}
 use Rattle.tenant_trails.specs.Legal.{Closed}
-use Rattle.program_code.specs.declared.image.Image.{Image}
+use Rattle.stack_code.specs.declared.image.Image.{Image}
 use Rattle.typed_program.specs.declared.program.Program.{Program}
 
 -- the requests of the first session, if there is one

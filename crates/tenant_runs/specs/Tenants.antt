@@ -5,13 +5,13 @@ use Rattle.apex_requests.specs.declared.request.Request.{Request}
 use Rattle.apex_rows.specs.declared.row.Row.{Row}
 use Rattle.apex_schema.specs.declared.schema.Schema.{Schema}
 use Rattle.session_runs.specs.Replies.{IsRunOf}
-use Rattle.program_code.specs.Means.{Means}
+use Rattle.stack_code.specs.Means.{Means}
 use Rattle.session_runs.specs.Sessions.{HaveUsers, tenant_of}
 use Rattle.tenant_core.specs.Shards.{seeded}
 use Rattle.tenant_parts.specs.declared.part.TenantPart.{TenantPart}
 use Rattle.tenant_parts.specs.declared.session.Session.{Session}
 use Rattle.tenant_trails.specs.Legal.{Closed}
-use Rattle.program_code.specs.declared.image.Image.{Image}
+use Rattle.stack_code.specs.declared.image.Image.{Image}
 use Rattle.typed_program.specs.declared.program.Program.{Program}
 
 abbrev pub requests_of : List Session → List (List Request)

@@ -1,6 +1,6 @@
 -- What the requests of a tenant's part do (docs/platform.md, "Trails").
 use Rattle.std.specs.Prelude.{ℕ, List, [], length, map, slice_get, Option, None, Some}
-use Rattle.language_meaning.specs.Runs.{run}
+use Rattle.apex_meaning.specs.Runs.{run}
 use Rattle.apex_requests.specs.declared.reply.Outcome.TheVariants as Outcome
 use Rattle.apex_requests.specs.declared.reply.Reply.{Reply}
 use Rattle.apex_requests.specs.declared.request.Request.{Request}

@@ -1,8 +1,8 @@
 use Rattle.std.proofs.Common.{[], Ok, refl, subst, sym}
 use Rattle.commands.proofs.Blocks.{made_of, runs_in}
 use Rattle.commands.specs.Exec.{program_of, schema, ticket}
-use Rattle.program_code.specs.Checked.{IsChecked}
-use Rattle.program_code.specs.Means.{Means}
+use Rattle.stack_code.specs.Checked.{IsChecked}
+use Rattle.stack_code.specs.Means.{Means}
 use Rattle.commands.proofs.exec.ran.Goals as goal
 
 pub returns : goal.returns

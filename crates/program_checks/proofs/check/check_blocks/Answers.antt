@@ -1,5 +1,5 @@
 use Rattle.std.proofs.Common.{refl}
-use Rattle.program_code.specs.Checked.{IsFineBlock}
+use Rattle.stack_code.specs.Checked.{IsFineBlock}
 use Rattle.program_checks.proofs.Loops.{all_more, all_over}
 use Rattle.program_checks.proofs.check.check_blocks.Goals as goal
 

@@ -1,5 +1,5 @@
 use Rattle.std.proofs.Common.{All, take}
-use Rattle.program_code.specs.Checked.{IsFineBlock}
+use Rattle.stack_code.specs.Checked.{IsFineBlock}
 use Rattle.program_checks.proofs.check.check_blocks.Given as goal
 
 abbrev pub invariant-loop-block : goal.invariant-loop-block

@@ -1,5 +1,5 @@
 use Rattle.std.proofs.Common.{length, refl}
-use Rattle.program_code.specs.Checked.{IsFineClass}
+use Rattle.stack_code.specs.Checked.{IsFineClass}
 use Rattle.program_checks.proofs.Loops.{all_more, all_over}
 use Rattle.program_checks.proofs.check.check_classes.Goals as goal
 

@@ -1,5 +1,5 @@
 use Rattle.std.proofs.Common.{All, length, take}
-use Rattle.program_code.specs.Checked.{IsFineClass}
+use Rattle.stack_code.specs.Checked.{IsFineClass}
 use Rattle.program_checks.proofs.check.check_classes.Given as goal
 
 abbrev pub invariant-loop-class : goal.invariant-loop-class

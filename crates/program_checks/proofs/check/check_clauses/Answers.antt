@@ -1,6 +1,6 @@
 use Rattle.std.proofs.Common.{◌<◌, refl}
 use Rattle.std.proofs.lemmas.List.Elements.{All-more}
-use Rattle.program_code.specs.declared.image.Clause.{Clause}
+use Rattle.stack_code.specs.declared.image.Clause.{Clause}
 use Rattle.program_checks.proofs.Loops.{all_over}
 use Rattle.program_checks.proofs.check.check_clauses.Goals as goal
 

@@ -1,5 +1,5 @@
 use Rattle.std.proofs.Common.{All, take, ◌<◌}
-use Rattle.program_code.specs.declared.image.Clause.{Clause}
+use Rattle.stack_code.specs.declared.image.Clause.{Clause}
 use Rattle.program_checks.proofs.check.check_clauses.Given as goal
 
 abbrev pub invariant-loop-clause : goal.invariant-loop-clause

@@ -1,6 +1,6 @@
 use Rattle.std.proofs.Common.{◌≡◌, ℕ, ◌<◌, slice_get, Some}
-use Rattle.program_code.specs.declared.code.Instr.{Instr}
-use Rattle.program_code.specs.Checked.{FineAt}
+use Rattle.stack_code.specs.declared.code.Instr.{Instr}
+use Rattle.stack_code.specs.Checked.{FineAt}
 use Rattle.program_checks.proofs.check.check_code.Given as goal
 
 abbrev pub invariant-loop-pc : goal.invariant-loop-pc

@@ -1,5 +1,5 @@
 use Rattle.std.proofs.Common.{refl, subst}
-use Rattle.program_code.specs.Checked.{IsFine, IsFineCode}
+use Rattle.stack_code.specs.Checked.{IsFine, IsFineCode}
 use Rattle.program_checks.proofs.Loops.{all_more, all_over}
 use Rattle.program_checks.proofs.check.check_codes.Goals as goal
 

@@ -1,5 +1,5 @@
 use Rattle.std.proofs.Common.{All, take}
-use Rattle.program_code.specs.Checked.{IsFineCode}
+use Rattle.stack_code.specs.Checked.{IsFineCode}
 use Rattle.program_checks.proofs.check.check_codes.Given as goal
 
 abbrev pub invariant-loop-code : goal.invariant-loop-code

@@ -1,5 +1,5 @@
 use Rattle.std.proofs.Common.{◌∙◌}
-use Rattle.program_code.specs.Things.{builtin_next}
+use Rattle.stack_code.specs.Things.{builtin_next}
 use Rattle.program_things.proofs.Called.{renamed}
 use Rattle.program_things.proofs.Same.{builtin_alike, taken_is}
 use Rattle.program_things.proofs.builtins.act_builtin.Goals as goal

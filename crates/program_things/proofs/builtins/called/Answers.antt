@@ -1,5 +1,5 @@
 use Rattle.std.proofs.Common.{◌∷◌, sym, ap, ◌∙◌}
-use Rattle.program_code.specs.Machine.{next}
+use Rattle.stack_code.specs.Machine.{next}
 use Rattle.program_things.proofs.Framed.{framed}
 use Rattle.program_things.proofs.Called.{ended, given, renamed}
 use Rattle.program_things.proofs.builtins.called.Goals as goal

@@ -1,7 +1,7 @@
 use Rattle.std.proofs.Common.{Some, None, ap, subst, ◌∙◌}
 use Rattle.builtin_sizes.specs.Sizes.{sized}
 use Rattle.builtin_table.specs.Meanings.{meaning}
-use Rattle.program_code.specs.Things.{answered_next}
+use Rattle.stack_code.specs.Things.{answered_next}
 use Rattle.program_things.specs.Steps.{ChargesSize}
 use Rattle.program_things.proofs.Called.{renamed}
 use Rattle.program_things.proofs.Made.{sized_behind, sized_over, sized_top}

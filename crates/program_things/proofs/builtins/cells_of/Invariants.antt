@@ -1,5 +1,5 @@
 use Rattle.std.proofs.Common.{◌≡◌, ◌++◌, map}
-use Rattle.language_meaning.specs.Builtins.{cell_in}
+use Rattle.apex_meaning.specs.Builtins.{cell_in}
 use Rattle.program_things.proofs.builtins.cells_of.Given as goal
 
 abbrev pub invariant-loop-value : goal.invariant-loop-value

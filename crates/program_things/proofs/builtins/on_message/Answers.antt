@@ -1,6 +1,6 @@
 use Rattle.std.proofs.Common.{sym, subst, ◌∙◌}
-use Rattle.language_meaning.specs.Exceptions.{message_of_thing}
-use Rattle.program_code.specs.Things.{message_next}
+use Rattle.apex_meaning.specs.Exceptions.{message_of_thing}
+use Rattle.stack_code.specs.Things.{message_next}
 use Rattle.program_things.specs.Steps.{IsStep}
 use Rattle.program_things.proofs.Called.{renamed}
 use Rattle.program_things.proofs.Made.{message_none, message_some}

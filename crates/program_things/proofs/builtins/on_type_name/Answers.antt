@@ -1,6 +1,6 @@
 use Rattle.std.proofs.Common.{sym, ap, subst, ◌∙◌}
-use Rattle.language_meaning.specs.Exceptions.{BuiltIn, Declared, Nothing, kind_of_thing}
-use Rattle.program_code.specs.Things.{name_of_kind, text_next}
+use Rattle.apex_meaning.specs.Exceptions.{BuiltIn, Declared, Nothing, kind_of_thing}
+use Rattle.stack_code.specs.Things.{name_of_kind, text_next}
 use Rattle.program_things.specs.Kinds.{as_kind}
 use Rattle.program_things.specs.Steps.{IsStep}
 use Rattle.program_things.proofs.Called.{renamed}

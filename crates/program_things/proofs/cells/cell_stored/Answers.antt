@@ -1,6 +1,6 @@
 use Rattle.std.proofs.Common.{◌∷◌, sym, ap, subst, ◌∙◌}
-use Rattle.program_code.specs.declared.state.Config.{Config}
-use Rattle.program_code.specs.Machine.{next}
+use Rattle.stack_code.specs.declared.state.Config.{Config}
+use Rattle.stack_code.specs.Machine.{next}
 use Rattle.program_things.specs.Steps.{IsStep}
 use Rattle.program_things.proofs.Called.{renamed}
 use Rattle.program_things.proofs.CellSteps.{stored_none, stored_some}

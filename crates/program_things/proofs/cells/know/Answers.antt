@@ -1,10 +1,10 @@
 use Rattle.std.proofs.Common.{◌∷◌, sym, ap, subst, ◌∙◌}
 use Rattle.apex_num.specs.declared.kind.LimitKind.TheVariants.{Alloc}
-use Rattle.language_meaning.specs.Places.{with_cell}
+use Rattle.apex_meaning.specs.Places.{with_cell}
 use Rattle.txn_heap.specs.Changes.{changed as things_changed, thing_after}
 use Rattle.txn_heap.specs.declared.change.Change.TheVariants as Now
-use Rattle.program_code.specs.declared.state.Config.{Config}
-use Rattle.program_code.specs.Machine.{next, with_heap}
+use Rattle.stack_code.specs.declared.state.Config.{Config}
+use Rattle.stack_code.specs.Machine.{next, with_heap}
 use Rattle.program_things.specs.Steps.{Charges}
 use Rattle.program_things.proofs.Called.{renamed}
 use Rattle.program_things.proofs.Charged.{behind_paid, charged_over}

@@ -1,7 +1,7 @@
 use Rattle.std.proofs.Common.{sym, ap, ◌∙◌}
 use Rattle.heap_methods.specs.Making.{copied}
-use Rattle.language_meaning.specs.Collections.{collection}
-use Rattle.program_code.specs.Things.{copied_next}
+use Rattle.apex_meaning.specs.Collections.{collection}
+use Rattle.stack_code.specs.Things.{copied_next}
 use Rattle.program_things.proofs.Called.{renamed}
 use Rattle.program_things.proofs.Same.{copied_alike, top_is, with_stack}
 use Rattle.program_things.proofs.collections.act_copied.Goals as goal

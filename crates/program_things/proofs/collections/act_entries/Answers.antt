@@ -2,7 +2,7 @@ use Rattle.std.proofs.Common.{◌+◌, sym, ap, ◌∙◌}
 use Rattle.heap_methods.specs.Making.{map_of}
 use Rattle.heap_methods.specs.Outcomes.{content}
 use Rattle.txn_heap.specs.declared.thing.Thing.TheVariants as T
-use Rattle.program_code.specs.Things.{entries_next, make_for}
+use Rattle.stack_code.specs.Things.{entries_next, make_for}
 use Rattle.program_things.specs.Collects.{flat}
 use Rattle.program_things.proofs.Called.{renamed}
 use Rattle.program_things.proofs.Made.{entries_is}

@@ -1,6 +1,6 @@
 use Rattle.std.proofs.Common.{◌+◌, sym, ap, ◌∙◌}
 use Rattle.heap_methods.specs.Outcomes.{content}
-use Rattle.program_code.specs.Things.{filled_next, make_for}
+use Rattle.stack_code.specs.Things.{filled_next, make_for}
 use Rattle.program_things.proofs.Called.{renamed}
 use Rattle.program_things.proofs.Made.{filled_is}
 use Rattle.program_things.proofs.Same.{taken_is, with_stack}

@@ -1,8 +1,8 @@
 use Rattle.std.proofs.Common.{◌∷◌, None, sym, ap, subst}
 use Rattle.heap_methods.specs.Making.{copied}
 use Rattle.heap_methods.specs.Plans.{Copies, FailsBy}
-use Rattle.program_code.specs.Machine.{next}
-use Rattle.program_code.specs.Things.{copied_next}
+use Rattle.stack_code.specs.Machine.{next}
+use Rattle.stack_code.specs.Things.{copied_next}
 use Rattle.program_things.specs.Steps.{IsStep}
 use Rattle.program_things.proofs.Called.{renamed}
 use Rattle.program_things.proofs.collections.copied_next.Goals as goal

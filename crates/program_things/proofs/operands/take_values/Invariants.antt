@@ -1,5 +1,5 @@
 use Rattle.std.proofs.Common.{◌≡◌, ◌-◌, [], reverse}
-use Rattle.program_code.specs.Machine.{taken}
+use Rattle.stack_code.specs.Machine.{taken}
 use Rattle.program_things.proofs.operands.take_values.Given as goal
 
 abbrev pub invariant-values : goal.invariant-values

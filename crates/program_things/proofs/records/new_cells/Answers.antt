@@ -1,7 +1,7 @@
 use Rattle.std.proofs.lemmas.Grind.{common_steps}
 use Rattle.std.proofs.Common.{arith, drop, sym, ap, ◌∙◌}
-use Rattle.apex_meaning.specs.Expressions.{with_pairs}
-use Rattle.program_code.specs.Things.{paired}
+use Rattle.request_states.specs.Expressions.{with_pairs}
+use Rattle.stack_code.specs.Things.{paired}
 use Rattle.program_things.proofs.Lists.{paired_none}
 use Rattle.program_things.proofs.records.new_cells.Goals as goal
 

@@ -1,8 +1,8 @@
 use Rattle.std.proofs.Common.{◌≡◌, ◌≤◌, drop, length}
 use Rattle.std.specs.Prelude.{None, replicate}
 use Rattle.std.specs.Option.{option_copied}
-use Rattle.apex_meaning.specs.Expressions.{with_pairs, width}
-use Rattle.program_code.specs.Things.{paired}
+use Rattle.request_states.specs.Expressions.{with_pairs, width}
+use Rattle.stack_code.specs.Things.{paired}
 use Rattle.program_things.proofs.records.new_cells.Given as goal
 
 abbrev pub invariant-loop-value : goal.invariant-loop-value

@@ -1,5 +1,5 @@
 use Rattle.std.proofs.Common.{◌≡◌, drop}
-use Rattle.apex_meaning.specs.Statements.{places_of}
+use Rattle.request_states.specs.Statements.{places_of}
 use Rattle.program_things.specs.Records.{behind}
 use Rattle.program_things.proofs.records.places_of.Given as goal
 

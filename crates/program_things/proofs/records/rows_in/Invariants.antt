@@ -1,5 +1,5 @@
 use Rattle.std.proofs.Common.{◌≡◌, ◌++◌, drop}
-use Rattle.apex_meaning.specs.Statements.{rows_in}
+use Rattle.request_states.specs.Statements.{rows_in}
 use Rattle.program_things.proofs.records.rows_in.Given as goal
 
 abbrev pub invariant-loop-place : goal.invariant-loop-place

@@ -1,5 +1,5 @@
 use Rattle.std.proofs.Common.{◌≡◌, drop}
-use Rattle.apex_meaning.specs.Statements.{set_ids}
+use Rattle.request_states.specs.Statements.{set_ids}
 use Rattle.program_things.proofs.records.set_ids.Given as goal
 
 abbrev pub invariant-loop-i : goal.invariant-loop-i

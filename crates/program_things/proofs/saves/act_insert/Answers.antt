@@ -1,6 +1,6 @@
 use Rattle.std.proofs.Common.{sym, ap, ◌∙◌}
-use Rattle.apex_meaning.specs.Statements.{records_of}
-use Rattle.program_code.specs.Steps.{insert_next}
+use Rattle.request_states.specs.Statements.{records_of}
+use Rattle.stack_code.specs.Steps.{insert_next}
 use Rattle.program_things.proofs.Called.{renamed}
 use Rattle.program_things.proofs.Same.{insert_alike, top_is, with_stack}
 use Rattle.program_things.proofs.saves.act_insert.Goals as goal

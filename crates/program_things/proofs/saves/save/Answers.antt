@@ -1,8 +1,8 @@
 use Rattle.std.proofs.Common.{sym, ap, subst, ◌∙◌}
 use Rattle.save_procedure.specs.Does.{Advances}
-use Rattle.program_code.specs.declared.state.Mode.TheVariants as M
-use Rattle.apex_meaning.specs.Statements.{set_ids}
-use Rattle.program_code.specs.Machine.{in_mode, with_txn, with_heap}
+use Rattle.stack_code.specs.declared.state.Mode.TheVariants as M
+use Rattle.request_states.specs.Statements.{set_ids}
+use Rattle.stack_code.specs.Machine.{in_mode, with_txn, with_heap}
 use Rattle.program_things.specs.declared.moved.Moved.TheVariants as S
 use Rattle.program_things.specs.Saves.{IsStepTo}
 use Rattle.program_things.proofs.Advancing.{asks_in, saved_in, threw_in, halted_in, halted_behind}
@@ -27,8 +27,8 @@ returns-in-Threw-clause-step c =
 
 pub returns-in-Halted-clause-step : goal.returns-in-Halted-clause-step
 returns-in-Halted-clause-step c =
-    λ image. halted_in c.args.schema.now c.args.ticket image c.args.places c.args.c.now c.args.run c.args.c.now.world.txn c.in-Halted.limit c.advance.new.run c.advance.new.txn c.limited.result c.limited.new.c (subst (λ s. Advances c.args.schema.now c.args.ticket c.args.run c.args.c.now.world.txn s c.advance.new.run c.advance.new.txn) c.in-Halted.is c.in_ok-question.ensures) c.limited.ensures
+    λ image. halted_in c.args.schema.now c.args.ticket image c.args.places c.args.c.now c.args.run c.args.c.now.world.txn c.in-Halted.limit c.advance.new.run c.advance.new.txn c.limited.result (with_txn c.args.c.now c.advance.new.txn) (subst (λ s. Advances c.args.schema.now c.args.ticket c.args.run c.args.c.now.world.txn s c.advance.new.run c.advance.new.txn) c.in-Halted.is c.in_ok-question.ensures) c.limited.ensures
 
 pub returns-in-Halted-clause-behind : goal.returns-in-Halted-clause-behind
 returns-in-Halted-clause-behind c =
-    halted_behind c.in-Halted.limit.kind c.in-Halted.limit.number (record (c.args.c.now.world) { txn = c.advance.new.txn }) c.args.c.now c.limited.new.c c.limited.result c.limited.ensures
+    halted_behind c.in-Halted.limit.kind c.in-Halted.limit.number (record (c.args.c.now.world) { txn = c.advance.new.txn }) c.args.c.now (with_txn c.args.c.now c.advance.new.txn) c.limited.result c.limited.ensures

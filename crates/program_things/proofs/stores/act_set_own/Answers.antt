@@ -1,7 +1,7 @@
 use Rattle.std.proofs.Common.{sym, ap, subst, ◌∙◌}
-use Rattle.program_code.specs.declared.state.Config.{Config}
-use Rattle.program_code.specs.Machine.{next, with_heap}
-use Rattle.program_code.specs.Things.{field_stored}
+use Rattle.stack_code.specs.declared.state.Config.{Config}
+use Rattle.stack_code.specs.Machine.{next, with_heap}
+use Rattle.stack_code.specs.Things.{field_stored}
 use Rattle.program_things.specs.Steps.{IsStep}
 use Rattle.program_things.proofs.Fields.{stored_none, stored_some}
 use Rattle.program_things.proofs.Same.{top_is}

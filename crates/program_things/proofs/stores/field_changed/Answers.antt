@@ -1,6 +1,6 @@
 use Rattle.std.proofs.Common.{◌∷◌, cond, sym, ap, ◌∙◌}
-use Rattle.program_code.specs.Machine.{next, on_calc}
-use Rattle.program_code.specs.Things.{field_stored}
+use Rattle.stack_code.specs.Machine.{next, on_calc}
+use Rattle.stack_code.specs.Things.{field_stored}
 use Rattle.program_things.proofs.Called.{renamed}
 use Rattle.program_things.proofs.stores.field_changed.Goals as goal
 

@@ -1,7 +1,7 @@
 use Rattle.std.proofs.Common.{[], ◌∷◌, cond, sym, ap, ◌∙◌}
-use Rattle.program_code.specs.declared.code.Slot.TheVariants as S
-use Rattle.program_code.specs.Machine.{next, on_calc}
-use Rattle.program_code.specs.Things.{stored}
+use Rattle.stack_code.specs.declared.code.Slot.TheVariants as S
+use Rattle.stack_code.specs.Machine.{next, on_calc}
+use Rattle.stack_code.specs.Things.{stored}
 use Rattle.program_things.proofs.Called.{renamed}
 use Rattle.program_things.proofs.stores.item_changed.Goals as goal
 

@@ -2,12 +2,12 @@ use Rattle.std.proofs.Common.{List, [], ◌∷◌, cond, sym, ap, subst, ◌∙�
 use Rattle.builtin_table.specs.declared.method.Builtin.TheVariants as B
 use Rattle.builtin_table.specs.declared.method.ListMethod.TheVariants as L
 use Rattle.value_operators.specs.Operators.{stepped}
-use Rattle.program_code.specs.declared.code.Slot.TheVariants as S
+use Rattle.stack_code.specs.declared.code.Slot.TheVariants as S
 use Rattle.txn_heap.specs.declared.thing.Value.{Value}
-use Rattle.program_code.specs.declared.state.Config.{Config}
+use Rattle.stack_code.specs.declared.state.Config.{Config}
 use Rattle.program_things.specs.Collects.{Collects}
-use Rattle.program_code.specs.Machine.{next, on_calc}
-use Rattle.program_code.specs.Things.{stored}
+use Rattle.stack_code.specs.Machine.{next, on_calc}
+use Rattle.stack_code.specs.Things.{stored}
 use Rattle.program_things.proofs.Framed.{framed}
 use Rattle.program_things.proofs.Called.{ended, given, renamed}
 use Rattle.program_things.proofs.stores.item_stepped.Goals as goal

@@ -1,7 +1,7 @@
 use Rattle.std.proofs.Common.{[], ◌∷◌, sym, ap, ◌∙◌}
 use Rattle.builtin_table.specs.declared.method.Builtin.TheVariants as B
 use Rattle.builtin_table.specs.declared.method.ListMethod.TheVariants as L
-use Rattle.program_code.specs.Machine.{next}
+use Rattle.stack_code.specs.Machine.{next}
 use Rattle.program_things.proofs.Framed.{framed}
 use Rattle.program_things.proofs.Called.{ended, given, renamed}
 use Rattle.program_things.proofs.stores.item_stored.Goals as goal

@@ -1,6 +1,6 @@
 use Rattle.std.proofs.Common.{◌∷◌, sym, ap, ◌∙◌}
-use Rattle.program_code.specs.Machine.{next}
-use Rattle.program_code.specs.Things.{field_stored}
+use Rattle.stack_code.specs.Machine.{next}
+use Rattle.stack_code.specs.Things.{field_stored}
 use Rattle.program_things.proofs.Same.{with_stack}
 use Rattle.program_things.proofs.Called.{renamed}
 use Rattle.program_things.proofs.Fields.{set_is}

@@ -1,7 +1,7 @@
 use Rattle.std.proofs.Common.{[], ◌∷◌, sym, ap, ◌∙◌}
-use Rattle.program_code.specs.declared.code.Slot.TheVariants as S
-use Rattle.program_code.specs.Machine.{next}
-use Rattle.program_code.specs.Things.{stored}
+use Rattle.stack_code.specs.declared.code.Slot.TheVariants as S
+use Rattle.stack_code.specs.Machine.{next}
+use Rattle.stack_code.specs.Things.{stored}
 use Rattle.program_things.proofs.Called.{renamed}
 use Rattle.program_things.proofs.Same.{set_item_is, with_stack}
 use Rattle.program_things.proofs.stores.set_item.Goals as goal

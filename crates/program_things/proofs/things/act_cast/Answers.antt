@@ -1,5 +1,5 @@
 use Rattle.std.proofs.Common.{ap, ◌∙◌, sym}
-use Rattle.program_code.specs.Things.{cast_if, cast_next, is_declared}
+use Rattle.stack_code.specs.Things.{cast_if, cast_next, is_declared}
 use Rattle.program_things.proofs.Called.{renamed}
 use Rattle.program_things.proofs.Same.{cast_is, top_is, with_stack}
 use Rattle.program_things.proofs.things.act_cast.Goals as goal

@@ -1,6 +1,6 @@
 use Rattle.std.proofs.Common.{ap, ◌∙◌, sym}
-use Rattle.language_meaning.specs.Exceptions.{is_built_in}
-use Rattle.program_code.specs.Things.{cast_if, cast_next}
+use Rattle.apex_meaning.specs.Exceptions.{is_built_in}
+use Rattle.stack_code.specs.Things.{cast_if, cast_next}
 use Rattle.program_things.proofs.Called.{renamed}
 use Rattle.program_things.proofs.Same.{cast_is, top_is, with_stack}
 use Rattle.program_things.proofs.things.act_cast_exception.Goals as goal

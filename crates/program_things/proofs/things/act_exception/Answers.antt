@@ -1,7 +1,7 @@
 use Rattle.std.proofs.Common.{sym, ap, ◌∙◌}
-use Rattle.language_meaning.specs.Collections.{message_among}
+use Rattle.apex_meaning.specs.Collections.{message_among}
 use Rattle.txn_heap.specs.declared.thing.Thing.TheVariants as T
-use Rattle.program_code.specs.Things.{make_for}
+use Rattle.stack_code.specs.Things.{make_for}
 use Rattle.program_things.proofs.Called.{renamed}
 use Rattle.program_things.proofs.Same.{make_alike, taken_is, with_stack}
 use Rattle.program_things.proofs.things.act_exception.Goals as goal

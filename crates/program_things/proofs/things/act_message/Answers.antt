@@ -1,6 +1,6 @@
 use Rattle.std.proofs.Common.{◌∷◌, ap, ◌∙◌}
-use Rattle.program_code.specs.Machine.{next, on_taken}
-use Rattle.program_code.specs.Things.{set_message}
+use Rattle.stack_code.specs.Machine.{next, on_taken}
+use Rattle.stack_code.specs.Things.{set_message}
 use Rattle.program_things.proofs.Called.{renamed}
 use Rattle.program_things.proofs.Same.{taken_is, top_is, with_stack}
 use Rattle.program_things.proofs.Told.{told_behind}

@@ -1,6 +1,6 @@
 use Rattle.std.proofs.Common.{sym, ap, subst, ◌∙◌}
-use Rattle.program_code.specs.Machine.{next}
-use Rattle.program_code.specs.Things.{set_message}
+use Rattle.stack_code.specs.Machine.{next}
+use Rattle.stack_code.specs.Things.{set_message}
 use Rattle.program_things.specs.Steps.{IsStep}
 use Rattle.program_things.proofs.Same.{taken_is, with_stack}
 use Rattle.program_things.proofs.Told.{told_behind}

@@ -1,7 +1,7 @@
 use Rattle.std.proofs.Common.{◌+◌, length, refl, ◌∙◌}
 use Rattle.apex_num.specs.declared.kind.LimitKind.TheVariants.{Alloc}
 use Rattle.value_texts.specs.Texts.{text_of}
-use Rattle.program_code.specs.Things.{print_next}
+use Rattle.stack_code.specs.Things.{print_next}
 use Rattle.program_things.proofs.Called.{renamed}
 use Rattle.program_things.proofs.Same.{charged_alike, top_is}
 use Rattle.program_things.proofs.things.act_print.Goals as goal

@@ -1,8 +1,8 @@
 use Rattle.std.proofs.Common.{◌+◌, ◌*◌, length, replicate, refl, None, ◌∙◌}
 use Rattle.std.specs.Prelude.{slice_get}
-use Rattle.apex_meaning.specs.Expressions.{with_pairs, width}
+use Rattle.request_states.specs.Expressions.{with_pairs, width}
 use Rattle.txn_heap.specs.declared.thing.Thing.TheVariants as T
-use Rattle.program_code.specs.Things.{paired, record_next}
+use Rattle.stack_code.specs.Things.{paired, record_next}
 use Rattle.program_things.proofs.Called.{renamed}
 use Rattle.program_things.proofs.Same.{make_alike, taken_is}
 use Rattle.program_things.proofs.things.act_record.Goals as goal

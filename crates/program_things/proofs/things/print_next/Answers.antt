@@ -1,8 +1,8 @@
 use Rattle.std.proofs.Common.{◌+◌, ◌∷◌, length, subst, sym, ap, ◌∙◌}
-use Rattle.apex_meaning.specs.Values.{null}
+use Rattle.request_states.specs.Values.{null}
 use Rattle.apex_num.specs.declared.kind.LimitKind.TheVariants.{Alloc}
 use Rattle.value_texts.specs.Texts.{text_of}
-use Rattle.program_code.specs.Machine.{next, with_line}
+use Rattle.stack_code.specs.Machine.{next, with_line}
 use Rattle.program_things.specs.Steps.{ChargesText}
 use Rattle.program_things.proofs.Charged.{behind_paid, charged_over}
 use Rattle.program_things.proofs.Called.{renamed}

@@ -1,6 +1,6 @@
 use Rattle.std.proofs.Common.{◌∷◌, refl, sym, ap, ◌∙◌}
 use Rattle.value_operators.specs.Operators.{converted}
-use Rattle.program_code.specs.Machine.{next, on_calc}
+use Rattle.stack_code.specs.Machine.{next, on_calc}
 use Rattle.program_things.proofs.Called.{renamed}
 use Rattle.program_things.proofs.Same.{calc_alike, top_is, with_stack}
 use Rattle.program_things.proofs.values.act_convert.Goals as goal

@@ -3,7 +3,7 @@ use Rattle.apex_num.specs.declared.cell.Cell.TheVariants as C
 use Rattle.apex_num.specs.declared.kind.LimitKind.TheVariants.{Alloc}
 use Rattle.txn_heap.specs.declared.thing.Value.TheVariants.{Plain}
 use Rattle.value_operators.specs.Operators.{joined}
-use Rattle.program_code.specs.Machine.{next}
+use Rattle.stack_code.specs.Machine.{next}
 use Rattle.program_things.specs.Steps.{Charges, ChargesSize}
 use Rattle.program_things.proofs.Called.{renamed}
 use Rattle.program_things.proofs.Charged.{charged_over}

@@ -1,5 +1,5 @@
 use Rattle.std.proofs.Common.{◌<◌, ap, subst, ◌∙◌}
-use Rattle.apex_meaning.specs.States.{put_at}
+use Rattle.request_states.specs.States.{put_at}
 use Rattle.program_things.proofs.Lists.{filled}
 use Rattle.program_things.proofs.variables.fill.Goals as goal
 

@@ -1,6 +1,6 @@
 use Rattle.std.proofs.Common.{◌≡◌, ◌-◌, length}
 use Rattle.txn_heap.specs.declared.thing.Value.{Value}
-use Rattle.apex_meaning.specs.States.{put_at}
+use Rattle.request_states.specs.States.{put_at}
 use Rattle.program_things.proofs.variables.fill.Given as goal
 
 abbrev pub invariant-fill : goal.invariant-fill

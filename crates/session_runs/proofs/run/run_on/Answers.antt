@@ -2,7 +2,7 @@ use Rattle.std.proofs.Common.{refl, sym, ap, subst, ◌∙◌}
 use Rattle.record_store.specs.Heaps.{rows_in}
 use Rattle.record_store.specs.Places.{answer_to}
 use Rattle.tenant_core.specs.Logs.{IsCurrent}
-use Rattle.program_machine.specs.Runs.{Pauses, Waits}
+use Rattle.metered_vm.specs.Runs.{Pauses, Waits}
 use Rattle.session_runs.specs.Blocks.{RunsTo}
 use Rattle.session_runs.proofs.Asked.{asks_rows, at_next, at_end, log_none, log_same}
 use Rattle.session_runs.proofs.run.run_on.Goals as goal

@@ -1,5 +1,5 @@
 use Rattle.std.proofs.Common.{[], sym, subst}
-use Rattle.program_machine.specs.Runs.{Pauses, Waits}
+use Rattle.metered_vm.specs.Runs.{Pauses, Waits}
 use Rattle.session_runs.specs.Blocks.{RunsTo}
 use Rattle.session_runs.proofs.Asked.{at_next, at_end}
 use Rattle.session_runs.proofs.run.run_without.Goals as goal

@@ -3,7 +3,7 @@ use Rattle.record_store.specs.Heaps.{rows_in}
 use Rattle.tenant_core.specs.Shards.{told_at}
 use Rattle.typed_program.specs.declared.program.Program.{Program}
 use Rattle.session_runs.specs.Replies.{IsRunOf}
-use Rattle.program_code.specs.Means.{Means}
+use Rattle.stack_code.specs.Means.{Means}
 use Rattle.session_runs.specs.Sessions.{tenant_of}
 use Rattle.session_runs.proofs.Legality.{user_there, request_there, next_stands, next_legal, first_legal, all_run, run_closed, at_length}
 use Rattle.session_runs.proofs.session.run_session.Goals as goal

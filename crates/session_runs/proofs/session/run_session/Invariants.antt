@@ -2,7 +2,7 @@ use Rattle.std.proofs.Common.{◌≡◌, [], ◌∷◌}
 use Rattle.record_store.specs.Heaps.{rows_in}
 use Rattle.tenant_core.specs.Shards.{part_at, told_at}
 use Rattle.typed_program.specs.declared.program.Program.{Program}
-use Rattle.program_code.specs.Means.{Means}
+use Rattle.stack_code.specs.Means.{Means}
 use Rattle.session_runs.specs.Sessions.{StandsAt, tenant_of}
 use Rattle.session_runs.proofs.Legality.{Keeps}
 use Rattle.session_runs.proofs.session.run_session.Given as goal

@@ -1,6 +1,6 @@
 use Rattle.std.proofs.Common.{subst, sym}
-use Rattle.program_code.specs.Checked.{IsChecked}
-use Rattle.program_code.specs.Means.{Means}
+use Rattle.stack_code.specs.Checked.{IsChecked}
+use Rattle.stack_code.specs.Means.{Means}
 use Rattle.tenant_core.specs.Shards.{seeded}
 use Rattle.tenant_runs.specs.Tenants.{IsTrail}
 use Rattle.tenant_runs.proofs.runs.run_tenant.Goals as goal

@@ -1,3 +1,0 @@
-pub mod Equations
-mod Failing
-mod Samples

@@ -1,0 +1,2 @@
+pub mod MethodSteps
+pub mod StartSteps

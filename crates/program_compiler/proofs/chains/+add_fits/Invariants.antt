@@ -1,5 +1,0 @@
-use Rattle.std.proofs.Common.{length}
-use Rattle.program_compiler.proofs.chains.+add_fits.Given as goal
-
-abbrev pub decreases-add_fits : goal.decreases-add_fits
-decreases-add_fits l = length l.chain.now

@@ -1,6 +1,0 @@
-use Rattle.std.proofs.Common.{◌≡◌, ◌++◌, drop}
-use Rattle.program_code.specs.Images.{classes_from}
-use Rattle.program_compiler.proofs.image.classes_code.Given as goal
-
-abbrev pub invariant-loop-class : goal.invariant-loop-class
-invariant-loop-class l = l.codes ++ classes_from l.layout.program.now l.class (drop l.class l.layout.program.now.classes) ≡ classes_from l.layout.program.now 0 l.layout.program.now.classes

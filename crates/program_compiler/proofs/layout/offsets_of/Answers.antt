@@ -1,6 +1,0 @@
-use Rattle.program_compiler.specs.Offsets.{offset}
-use Rattle.program_compiler.proofs.Offsets.{one_more}
-use Rattle.program_compiler.proofs.layout.offsets_of.Goals as goal
-
-pub loop-class-preserved : goal.loop-class-preserved
-loop-class-preserved c = one_more (offset c.args.program.now) c.loop-class.all _ c.loop-class.class _ c.loop-class.invariant c.in_ok-offset_of.ensures c.in_ok-push.ensures.ok

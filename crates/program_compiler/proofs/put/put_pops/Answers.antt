@@ -1,5 +1,0 @@
-use Rattle.program_compiler.proofs.Grows.{popped}
-use Rattle.program_compiler.proofs.put.put_pops.Goals as goal
-
-pub loop-preserved : goal.loop-preserved
-loop-preserved c = popped c.loop.code.items _ c.args.code.now.items c.loop.counter c.loop.invariant c.in_ok-put.ensures

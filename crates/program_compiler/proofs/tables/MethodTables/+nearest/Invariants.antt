@@ -1,5 +1,0 @@
-use Rattle.std.proofs.Common.{length}
-use Rattle.program_compiler.proofs.tables.MethodTables.+nearest.Given as goal
-
-abbrev pub decreases-nearest : goal.decreases-nearest
-decreases-nearest l = length l.chain.now

@@ -1,8 +1,0 @@
-use Rattle.std.proofs.Common.{◌≡◌, take}
-use Rattle.indexmap.specs.IndexMap.{get}
-use Rattle.program_compiler.specs.declared.tables.MethodKey.{MethodKey}
-use Rattle.program_compiler.specs.Keys.{key_eq, place_of}
-use Rattle.program_compiler.proofs.tables.map_of.Given as goal
-
-abbrev pub invariant-loop-i : goal.invariant-loop-i
-invariant-loop-i l = (k : MethodKey) → get key_eq l.map k ≡ place_of k (take l.i l.methods)

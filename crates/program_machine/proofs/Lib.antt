@@ -1,5 +1,0 @@
-pub mod Modes
-pub mod Running
-pub mod Once
-pub mod Callers
-pub mod Leads

@@ -1,8 +1,0 @@
-use Rattle.std.proofs.Common.{◌≡◌, drop}
-use Rattle.program_code.specs.Calls.{enter_statics}
-use Rattle.program_machine.specs.Callers.{here_of}
-use Rattle.program_machine.proofs.frames.enter_statics.Given as goal
-
-abbrev pub invariant-statics : goal.invariant-statics
-invariant-statics l =
-    enter_statics l.image (drop l.class-index l.classes) (here_of l.caller) l.c ≡ enter_statics l.image l.classes (here_of l.caller) l.fn.c

@@ -1,8 +1,0 @@
-use Rattle.std.proofs.Common.{◌≡◌, ◌≤◌, drop, length}
-use Rattle.program_machine.proofs.opens.stacked.Given as goal
-
-abbrev pub invariant-values : goal.invariant-values
-invariant-values l = (l.left ≤ length l.values) × (l.items ≡ drop l.left l.values)
-
-abbrev pub decreases-values : goal.decreases-values
-decreases-values l = l.left
