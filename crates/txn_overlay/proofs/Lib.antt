@@ -1,4 +1,4 @@
 pub mod Merges
 pub mod Steps
 pub mod Writing
-pub mod Copies
+pub mod Undoing

@@ -25,7 +25,7 @@ use Rattle.txn_overlay.specs.declared.overlay.Change.{Change}
 use Rattle.txn_overlay.specs.declared.overlay.Change.TheVariants.{Now, Gone}
 use Rattle.txn_overlay.specs.Changes.{shown, plain, KeyFits, AllFit, changed, changed_by}
 
-same_bytes : (a b : List ℕ) → bytes_eq a b ≡ bytes_eq b a
+pub same_bytes : (a b : List ℕ) → bytes_eq a b ≡ bytes_eq b a
 same_bytes a b = both_ways (bytes_eq a b) (bytes_eq b a) (λ h. (bytes_eq-Decides b a).1 (sym ((bytes_eq-Decides a b).0 h))) (λ h. (bytes_eq-Decides a b).1 (sym ((bytes_eq-Decides b a).0 h)))
 
 -- an Id is in the table exactly where it is among the touched ones
@@ -49,7 +49,7 @@ inserted_is id c (e ∷ es) = by (bytes_cmp id e.0) (inserted_is id c es) where
   by Equal h = refl
   by Greater h = ap (λ (v : Overlay). (e.0, shown e.1) ∷ v) h
 
-fit_at : (a b : List ℕ) (c : Change) → a ≡ b → KeyFits a c → KeyFits b c
+pub fit_at : (a b : List ℕ) (c : Change) → a ≡ b → KeyFits a c → KeyFits b c
 fit_at a b (Now row) e h = h ∙ e
 fit_at a b Gone e h = tt
 

@@ -1,5 +1,5 @@
 -- The changes of a transaction as a table has them, and what they come to (docs/platform.md, "Overlays").
-use Rattle.std.specs.Prelude.{◌≡◌, ℕ, ◌++◌, not, List, [], ◌∷◌, filter}
+use Rattle.std.specs.Prelude.{◌≡◌, ℕ, ◌++◌, not, cond, bytes_eq, List, [], ◌∷◌, filter, Option, None, Some}
 use Rattle.std.specs.List.Sorted.{IsStrictlySortedBy}
 use Rattle.std.specs.Map.{keys_of}
 use Rattle.std.specs.declared.cmp.Ordering.{Ordering}
@@ -43,6 +43,11 @@ changed_by Greater id c e es more = e ∷ more
 abbrev pub changed : List ℕ → O.Change → Overlay → Overlay
 changed id c [] = (id, c) ∷ []
 changed id c (e ∷ es) = changed_by (bytes_cmp id e.0) id c e es (changed id c es)
+
+-- the change of an Id, where it has one
+abbrev pub found_in : Overlay → List ℕ → Option O.Change
+found_in [] id = None
+found_in (e ∷ es) id = cond (bytes_eq e.0 id) (Some e.1) (found_in es id)
 
 -- the Ids that are gone
 abbrev pub gone_in : List ℕ → O.Change → List (List ℕ)

@@ -1,3 +1,4 @@
 pub mod Changes
 pub mod Merging
 pub mod Journals
+pub mod Logs

@@ -1,11 +1,17 @@
 // Changes by Id.
 
 ghost use Rattle.std.specs.Prelude.{◌≡◌, [], ◌<◌, ◌^◌, suc, OnOk, OnErr, IfOk};
+ghost use Rattle.std.specs.BTreeMap.{is_at};
+ghost use Rattle.std.specs.List.Sorted.{IsStrictlySortedBy};
+ghost use Rattle.std.specs.Map.{keys_of, set_value, remove_entry};
+ghost use Rattle.std.specs.Option.{option_map};
+ghost use Rattle.row_meaning.specs.Cells.{bytes_cmp};
 ghost use Rattle.row_meaning.specs.Overlays.{touched_ids, overlay_rows, merged};
 ghost use Rattle.row_meaning.specs.Overlays.Change.{Now as NowIs, Gone as GoneIs};
 ghost use Rattle.row_meaning.specs.Stores.{has_id, of_object, without};
 ghost use Rattle.record_ids.specs.Ids.{most};
-ghost use Rattle.txn_overlay.specs.Changes.{changed, writes_of};
+ghost use Rattle.txn_overlay.specs.Changes.{KeyFits, changed, found_in, shown, writes_of};
+ghost use Rattle.txn_overlay.specs.Logs.{put_back, was_at};
 
 use crate::merge::merge_rows;
 use apex_list::Items;
@@ -22,6 +28,35 @@ use std::marker::Model;
 pub enum Change {
     Now(Row),
     Gone,
+}
+
+/// What stood at an Id before it was changed: a row, that its row was removed, or nothing.
+#[derive(Drop)]
+pub enum Was {
+    Held(Row),
+    Removed(Id),
+    Untouched(Id),
+}
+
+// What stood at an Id, where this change was found.
+fn was_at(id: Id, found: Option<Change>) -> Was
+    ensures { result ≡ was_at id found }
+{
+    match found {
+        Some(Change::Now(row)) => Was::Held(row),
+        Some(Change::Gone) => Was::Removed(id),
+        None => Was::Untouched(id),
+    }
+}
+
+// Puts a change in the place of another one of the Id, where there is one.
+fn replace(changes: &mut BTreeMap<Id, Change>, id: &Id, change: Change)
+    ensures entries { changes.new.entries ≡ set_value (is_at (bytes_cmp id.now)) changes.old.entries change }
+    ensures rising { IsStrictlySortedBy bytes_cmp (keys_of changes.new.entries) }
+{
+    if let Some(place) = changes.get_mut(id) {
+        *place = change;
+    }
 }
 
 /// The changes of a transaction, in the order of their Ids.
@@ -53,18 +88,43 @@ impl Overlay {
         }
     }
 
-    /// An overlay with the same changes.
-    pub fn copy(&self) -> Result<Overlay, NoMemory>
-        ensures { IfOk result (λ o. o ≡ self.now) }
+    // Changes an Id, and answers what stood there. Want of memory leaves the overlay.
+    pub(crate) fn write(&mut self, id: Id, change: Change) -> Result<Was, NoMemory>
+        requires { KeyFits id change }
+        ensures ok { OnOk result (self.new ≡ changed id (shown change) self.old) }
+        ensures back { IfOk result (λ was. put_back was self.new ≡ self.old) }
+        ensures err { OnErr result (self.new ≡ self.old) }
     {
-        let mut copied = Overlay::new(self.alloc);
-        for (id, change) in &self.changes {
-            match change {
-                Change::Now(row) => copied.put(row.copy()?)?,
-                Change::Gone => copied.remove(*id)?,
-            }
+        match self.changes.insert(id, change) {
+            Ok(found) => Ok(was_at(id, found)),
+            Err(_) => Err(AllocError),
         }
-        Ok(copied)
+    }
+
+    // Puts a change in the place of a later one of the Id, where there is one.
+    fn set(&mut self, id: Id, change: Change)
+        requires { KeyFits id change }
+        ensures { self.new ≡ set_value (is_at (bytes_cmp id)) self.old (shown change) }
+    {
+        replace(&mut self.changes, &id, change);
+    }
+
+    // An Id gets back what stood there. It takes no memory.
+    pub(crate) fn put_back(&mut self, was: Was)
+        ensures { self.new ≡ put_back was self.old }
+    {
+        match was {
+            Was::Held(row) => self.set(row.id, Change::Now(row)),
+            Was::Removed(id) => self.set(id, Change::Gone),
+            Was::Untouched(id) => self.leave(id),
+        }
+    }
+
+    // Takes out the change of an Id, where there is one.
+    fn leave(&mut self, id: Id)
+        ensures { self.new ≡ remove_entry (is_at (bytes_cmp id)) self.old }
+    {
+        self.changes.remove(&id);
     }
 
     /// Writes a row, in place of an earlier change of its Id. Want of memory leaves the overlay.
@@ -72,11 +132,8 @@ impl Overlay {
         ensures ok { OnOk result (self.new ≡ changed row.id (NowIs row) self.old) }
         ensures err { OnErr result (self.new ≡ self.old) }
     {
-        let id = row.id;
-        match self.changes.insert(id, Change::Now(row)) {
-            Ok(_) => Ok(()),
-            Err(_) => Err(AllocError),
-        }
+        self.write(row.id, Change::Now(row))?;
+        Ok(())
     }
 
     /// Removes an Id. Want of memory leaves the overlay.
@@ -84,10 +141,15 @@ impl Overlay {
         ensures ok { OnOk result (self.new ≡ changed id GoneIs self.old) }
         ensures err { OnErr result (self.new ≡ self.old) }
     {
-        match self.changes.insert(id, Change::Gone) {
-            Ok(_) => Ok(()),
-            Err(_) => Err(AllocError),
-        }
+        self.write(id, Change::Gone)?;
+        Ok(())
+    }
+
+    /// What the transaction did to an Id, where it did something. It takes no memory.
+    pub fn change(&self, id: &Id) -> Option<&Change>
+        ensures { option_map (λ c. shown c.now) result ≡ found_in self.now id.now }
+    {
+        self.changes.get(id)
     }
 
     /// Whether the transaction wrote or removed an Id. It takes no memory.
