@@ -3,12 +3,11 @@ use Rattle.std.specs.Prelude.{ℕ, Bool, true, false, cond, List, [], ◌∷◌,
 use Rattle.activations.specs.declared.abrupt.Abrupt.TheVariants.{Returns, Breaks, Continues}
 use Rattle.apex_num.specs.declared.cell.Cell.{Cell}
 use Rattle.apex_num.specs.declared.kind.LimitKind.TheVariants.{Steps}
-use Rattle.apex_syntax.specs.declared.stmt.DmlOp.TheVariants.{Insert}
 use Rattle.platform_errors.specs.declared.thrown.Thrown.TheVariants.{NullObject}
 use Rattle.save_meaning.specs.Results.{Gives, Stops, Leaves, bind}
 use Rattle.request_states.specs.Runs.{Setting, site_of}
-use Rattle.request_states.specs.States.{State, Res, charge, set_local, throws, unbuilt}
-use Rattle.request_states.specs.Statements.{insert_these, records_of}
+use Rattle.request_states.specs.States.{State, Res, charge, set_local, throws}
+use Rattle.request_states.specs.Statements.{op_of, records_of, save_these}
 use Rattle.request_states.specs.Values.{null}
 use Rattle.static_types.specs.declared.kind.ValueType.{ValueType}
 use Rattle.txn_heap.specs.declared.thing.Thing.{Thing}
@@ -122,8 +121,7 @@ module _ (setting : Setting) (again : Again) (names : List (List ℕ)) where
   started TypedStmt-F.Continue st = Stops (Leaves Continues) st
   started (TypedStmt-F.Throw e) st = bind (value e st) throw
   started (TypedStmt-F.Try body clauses last) st = finally_or (all_or last) (catching setting.program clauses (all_do body st))
-  started (TypedStmt-F.Dml Insert what e) st = bind (value e st) (λ v s. insert_these (site_of setting) (records_of what v s.world.heap) s)
-  started (TypedStmt-F.Dml op what e) st = unbuilt st
+  started (TypedStmt-F.Dml op what e) st = bind (value e st) (λ v s. save_these (site_of setting) (op_of op) (records_of what v s.world.heap) s)
 
   -- a statement costs a step when it starts; one in braces costs nothing beside those in it
   abbrev pub stmt_step : TypedStmt-F Do Clause → Do

@@ -1,6 +1,7 @@
 pub mod Prepared
 pub mod Worlds
 pub mod Paid
+pub mod Phases
 pub mod Saves
 pub mod Things
 pub mod Classes

@@ -11,7 +11,7 @@ use Rattle.save_meaning.specs.Results as R
 use Rattle.save_meaning.specs.Results.{Finish, Halts, Needs, Unfinished, Unbuilt, Stop, Gives, Stops, Leaves, Closes, bind, leaving, leaves_as, Holds}
 use Rattle.save_meaning.specs.Transactions as Save
 use Rattle.save_meaning.specs.Transactions.{left}
-use Rattle.request_states.specs.States.{World, State, Res, charge, keeps, saved, throws, unbuilt, make}
+use Rattle.request_states.specs.States.{World, State, Res, charge, keeps, throws, make}
 use Rattle.txn_heap.specs.declared.thing.Thing.{Thing}
 use Rattle.typed_program.specs.declared.program.Program.{Program}
 use Rattle.value_operators.specs.Operators.{Calc}
@@ -63,7 +63,7 @@ module _ (program : Program) where
   pub paid_leaves : {E A : Type 0} (n : ℕ) (why : State → E) → Paid {A = A} n (λ st. Stops (Leaves (why st)) st)
   paid_leaves n why = record { at = λ st h lt. record { holds = later_same program st.world h } }
 
-  pub paid_unbuilt : {A : Type 0} (n : ℕ) → Paid {A = A} n (λ st. unbuilt st)
+  pub paid_unbuilt : {E A : Type 0} (n : ℕ) → Paid {E = E} {A = A} n (λ st. Stops (Closes Unbuilt) st)
   paid_unbuilt n = record { at = λ st h lt. record { holds = later_same program st.world h } }
 
   -- with a state that is later
@@ -133,13 +133,13 @@ module _ (program : Program) where
 
   -- ---- what leaves as something else
 
-  saved_comes : {A : Type 0} (w : World) (res : R.Res State Thrown A) → Comes w res → Comes w (saved res)
-  saved_comes w (Gives a s) c = record { holds = c.holds }
-  saved_comes w (Stops (Leaves t) s) c = record { holds = c.holds }
-  saved_comes w (Stops (Closes f) s) c = record { holds = c.holds }
+  leaving_comes : {E F A : Type 0} (g : E → F) (w : World) (res : R.Res State E A) → Comes w res → Comes w (leaving g res)
+  leaving_comes g w (Gives a s) c = record { holds = c.holds }
+  leaving_comes g w (Stops (Leaves e) s) c = record { holds = c.holds }
+  leaving_comes g w (Stops (Closes f) s) c = record { holds = c.holds }
 
-  pub paid_saved : {A : Type 0} (n : ℕ) (f : State → R.Res State Thrown A) → Paid n f → Paid n (λ st. saved (f st))
-  paid_saved n f h = record { at = λ st s lt. saved_comes st.world (f st) (h.at st s lt) }
+  pub paid_leaving : {E F A : Type 0} (n : ℕ) (g : E → F) (f : State → R.Res State E A) → Paid n f → Paid n (λ st. leaving g (f st))
+  paid_leaving n g f h = record { at = λ st s lt. leaving_comes g st.world (f st) (h.at st s lt) }
 
   -- ---- parts
 

@@ -4,13 +4,12 @@ use Rattle.activations.specs.declared.abrupt.Abrupt.TheVariants.{Throws, Returns
 use Rattle.activations.specs.declared.abrupt.Raised.{Raised}
 use Rattle.activations.specs.declared.abrupt.Raised.TheVariants.{Platform, Made}
 use Rattle.apex_num.specs.declared.kind.LimitKind.TheVariants.{Steps}
-use Rattle.apex_syntax.specs.declared.stmt.DmlOp.TheVariants as Dml
+use Rattle.apex_syntax.specs.declared.stmt.DmlOp.{DmlOp}
 use Rattle.platform_errors.specs.declared.thrown.Thrown.TheVariants.{NullObject}
 use Rattle.save_meaning.specs.Results.{Gives, Stops, Leaves, Closes, bind}
 use Rattle.request_states.specs.Runs.{Setting, site_of}
 use Rattle.request_states.specs.States.{State, Res, World, charge, set_local}
-use Rattle.request_states.specs.Statements.{records_of}
-use Rattle.request_states.specs.Statements as Small
+use Rattle.request_states.specs.Statements.{op_of, records_of, save_these}
 use Rattle.typed_program.specs.declared.stmt.Saved.{Saved}
 use Rattle.request_states.specs.Values.{null}
 use Rattle.txn_heap.specs.declared.thing.Value.{Value}
@@ -31,9 +30,9 @@ use Rattle.apex_meaning.specs.Exceptions as X
 use Rattle.apex_meaning.specs.Exceptions.{Clause, catching, caught_by, clause_for, takes, throw}
 use Rattle.apex_meaning.specs.Meanings.{Again, Do, all_do, calc, test}
 use Rattle.apex_meaning.specs.Statements as D
-use Rattle.language_laws.proofs.Paid.{Paid as From, Comes, Each, none, more, paid_at, paid_gives, paid_leaves, paid_bind, paid_before, freely, paid_charge, paid_throws, paid_unbuilt, paid_calc, paid_test, paid_dropped, paid_make, paid_looping, paid_finally, paid_all_do}
+use Rattle.language_laws.proofs.Paid.{Paid as From, Comes, Each, none, more, paid_at, paid_gives, paid_leaves, paid_bind, paid_before, freely, paid_charge, paid_throws, paid_calc, paid_test, paid_dropped, paid_make, paid_looping, paid_finally, paid_all_do}
 use Rattle.language_laws.proofs.Classes.{Enough}
-use Rattle.language_laws.proofs.Saves.{paid_insert_these}
+use Rattle.language_laws.proofs.Saves.{paid_save_these}
 use Rattle.language_laws.proofs.Trees.{paid_expr}
 use Rattle.language_laws.proofs.Worlds.{later_same, spent, most_spent}
 
@@ -189,8 +188,8 @@ module _ (setting : Setting) (again : Again) (names : List (List ℕ)) (p : ℕ)
   items : (slot : ℕ) (how : Conversion) (v : Value) (x : SuchStmt) → Paid (λ s. D.each_of slot how (D.does setting again names x.0) (D.items_of v s.world.heap) s)
   items slot how v x = record { at = λ st s lt. (paid_each_of setting.program (suc p) slot how (D.does setting again names x.0) (D.items_of v st.world.heap) x.1).at st s lt }
 
-  inserts : (what : Saved) (v : Value) → Paid (λ s. Small.insert_these (site_of setting) (records_of what v s.world.heap) s)
-  inserts what v = record { at = λ st s lt. (paid_insert_these setting.program (site_of setting) (suc p) (records_of what v st.world.heap)).at st s lt }
+  saves : (op : DmlOp) (what : Saved) (v : Value) → Paid (λ s. save_these (site_of setting) (op_of op) (records_of what v s.world.heap) s)
+  saves op what v = record { at = λ st s lt. (paid_save_these setting.program (site_of setting) (suc p) (op_of op) (records_of what v st.world.heap)).at st s lt }
 
   stmt_layer : (y : TypedStmt-F SuchStmt SuchCatch) → OfStmt (roll-TypedStmt (map-TypedStmt SuchStmt SuchCatch TypedStmt TypedCatch (λ e. e.0) (λ e. e.0) y))
   stmt_layer (TypedStmt-F.Block ss) = stmt_does (TypedStmt-F.Block (map (λ s. s.0) ss)) (stmts ss)
@@ -211,10 +210,7 @@ module _ (setting : Setting) (again : Again) (names : List (List ℕ)) (p : ℕ)
   stmt_layer (TypedStmt-F.Try ss cs (Some last)) =
       stepped (TypedStmt-F.Try (map (λ s. s.0) ss) (map (λ c. c.0) cs) (Some (map (λ s. s.0) last))) _ (λ st. refl)
       (paid_finally setting.program (suc p) _ (all_do (map (D.does setting again names) (map (λ s. s.0) last))) (tries ss cs) (stmts last))
-  stmt_layer (TypedStmt-F.Dml Dml.Insert what e) = stepped (TypedStmt-F.Dml Dml.Insert what e) _ (λ st. refl) (paid_bind setting.program (suc p) (D.value setting again names e) _ (value e) (inserts what))
-  stmt_layer (TypedStmt-F.Dml Dml.Update what e) = stepped (TypedStmt-F.Dml Dml.Update what e) _ (λ st. refl) (paid_unbuilt setting.program (suc p))
-  stmt_layer (TypedStmt-F.Dml Dml.Delete what e) = stepped (TypedStmt-F.Dml Dml.Delete what e) _ (λ st. refl) (paid_unbuilt setting.program (suc p))
-  stmt_layer (TypedStmt-F.Dml Dml.Upsert what e) = stepped (TypedStmt-F.Dml Dml.Upsert what e) _ (λ st. refl) (paid_unbuilt setting.program (suc p))
+  stmt_layer (TypedStmt-F.Dml op what e) = stepped (TypedStmt-F.Dml op what e) _ (λ st. refl) (paid_bind setting.program (suc p) (D.value setting again names e) _ (value e) (saves op what))
 
   catch_layer : (y : TypedCatch-F SuchStmt SuchCatch) → OfCatch (roll-TypedCatch (map-TypedCatch SuchStmt SuchCatch TypedStmt TypedCatch (λ e. e.0) (λ e. e.0) y))
   catch_layer y =

@@ -27,7 +27,7 @@ use Rattle.request_states.specs.States.{State, charge}
 use Rattle.apex_meaning.specs.Bodies as B
 use Rattle.apex_meaning.specs.Bodies.{rounds, enough, body_runs}
 use Rattle.apex_meaning.specs.Classes
-use Rattle.apex_meaning.specs.Classes.{and_fields, code_of, constructor_at, field_place, fields_at, no_starts, starts}
+use Rattle.apex_meaning.specs.Classes.{code_of, constructor_at, field_place, fields_at, no_starts, starts}
 use Rattle.apex_meaning.specs.Meanings.{Again, Body, Method, Constructor as Written, Fields, Statics, Do, Run, all_do, all_of, in_here, returned, turn}
 use Rattle.apex_meaning.specs.Places.{set_field}
 use Rattle.apex_meaning.specs.Preparing.{constructed, set_message, with_statics}
@@ -304,28 +304,41 @@ told (Asks q) = Asked
 told (Ends reply writes) = Came reply.outcome reply.counts.steps reply.debug
 
 -- a block with these classes
-pub run : List ClassOf → List StmtOf → Told
-run classes block = told (block_run (setting classes) (stmt_trees block) [])
+pub trail : List ClassOf → List StmtOf → Trail
+trail classes block = block_run (setting classes) (stmt_trees block) []
 
 -- the same, where it goes round at most so often
-abbrev pub within : ℕ → Again → List ClassOf → List StmtOf → Told
-within k rest classes block =
-    told (run_of (setting classes) (all_do (stmt_all (setting classes) (goes classes (names_of (setting classes)) k rest) (names_of (setting classes)) block) (first_state [])))
+abbrev pub trail_within : ℕ → Again → List ClassOf → List StmtOf → Trail
+trail_within k rest classes block =
+    run_of (setting classes) (all_do (stmt_all (setting classes) (goes classes (names_of (setting classes)) k rest) (names_of (setting classes)) block) (first_state []))
 
 enough_is : (k c : ℕ) → k ≤ 1000000 → (m : ℕ) × (2 * (1000000 + 64000000 + c + 1) ≡ k + m)
 enough_is k c le = (2 * (1000000 + 64000000 + c + 1) - k, omega arith)
 
--- a run that goes round less often than that comes to what its parts do
-pub comes_in : (k : ℕ) (classes : List ClassOf) (block : List StmtOf) → k ≤ 1000000 → (rest : Again) × (run classes block ≡ within k rest classes block)
-unfolding run
-comes_in k classes block le = of_rest (enough_is k (length (map class_tree classes)) le)
+-- a block that goes round less often than that comes to what its parts do
+pub trail_in : (k : ℕ) (classes : List ClassOf) (block : List StmtOf) → k ≤ 1000000 → (rest : Again) × (trail classes block ≡ trail_within k rest classes block)
+unfolding trail
+trail_in k classes block le = of_rest (enough_is k (length (map class_tree classes)) le)
   where
-    of_rest : (m : ℕ) × (enough (setting classes).program ≡ k + m) → (rest : Again) × (run classes block ≡ within k rest classes block)
+    of_rest : (m : ℕ) × (enough (setting classes).program ≡ k + m) → (rest : Again) × (trail classes block ≡ trail_within k rest classes block)
     of_rest p = (
       rounds (setting classes) (names_of (setting classes)) p.0,
-      (λ i. told (run_of (setting classes) (does_all (setting classes) (rounds_is classes (names_of (setting classes)) k p.0 (enough (setting classes).program) p.1 i) (names_of (setting classes)) (stmt_trees block) (first_state []))))
-          ∙ (λ i. told (run_of (setting classes) (all_do (stmt_each (setting classes) (goes classes (names_of (setting classes)) k (rounds (setting classes) (names_of (setting classes)) p.0)) (names_of (setting classes)) block i) (first_state [])))),
+      (λ i. run_of (setting classes) (does_all (setting classes) (rounds_is classes (names_of (setting classes)) k p.0 (enough (setting classes).program) p.1 i) (names_of (setting classes)) (stmt_trees block) (first_state [])))
+          ∙ (λ i. run_of (setting classes) (all_do (stmt_each (setting classes) (goes classes (names_of (setting classes)) k (rounds (setting classes) (names_of (setting classes)) p.0)) (names_of (setting classes)) block i) (first_state []))),
     )
+
+pub ends : (k : ℕ) (classes : List ClassOf) (block : List StmtOf) (t : Trail) → k ≤ 1000000 → ((rest : Again) → trail_within k rest classes block ≡ t) → trail classes block ≡ t
+ends k classes block t le h = let c = trail_in k classes block le in c.1 ∙ h c.0
+
+-- what is told of a block
+abbrev pub run : List ClassOf → List StmtOf → Told
+run classes block = told (trail classes block)
+
+abbrev pub within : ℕ → Again → List ClassOf → List StmtOf → Told
+within k rest classes block = told (trail_within k rest classes block)
+
+pub comes_in : (k : ℕ) (classes : List ClassOf) (block : List StmtOf) → k ≤ 1000000 → (rest : Again) × (run classes block ≡ within k rest classes block)
+comes_in k classes block le = let c = trail_in k classes block le in (c.0, ap told c.1)
 
 pub comes : (k : ℕ) (classes : List ClassOf) (block : List StmtOf) (t : Told) → k ≤ 1000000 → ((rest : Again) → within k rest classes block ≡ t) → run classes block ≡ t
 comes k classes block t le h = let c = comes_in k classes block le in c.1 ∙ h c.0

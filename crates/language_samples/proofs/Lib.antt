@@ -4,3 +4,4 @@ pub mod Classes
 pub mod First
 pub mod Second
 pub mod Records
+pub mod Saves

@@ -8,8 +8,10 @@ use Rattle.static_types.specs.declared.kind.ValueType.TheOpen.{ValueType-F}
 use Rattle.static_types.specs.declared.kind.ValueType.TheViews.{roll-ValueType, out-roll-ValueType}
 use Rattle.typed_program.specs.declared.program.Program.{Program}
 use Rattle.typed_program.specs.declared.expr.Conversion.TheVariants.{Same}
-use Rattle.apex_syntax.specs.declared.stmt.DmlOp.TheVariants.{Insert}
-use Rattle.typed_program.specs.declared.stmt.Saved.TheVariants.{One}
+use Rattle.apex_syntax.specs.declared.stmt.DmlOp.{DmlOp}
+use Rattle.apex_syntax.specs.declared.stmt.DmlOp.TheVariants.{Insert, Update, Delete, Upsert}
+use Rattle.typed_program.specs.declared.stmt.Saved.{Saved}
+use Rattle.typed_program.specs.declared.stmt.Saved.TheVariants.{One, Many}
 use Rattle.typed_program.specs.declared.stmt.TypedCatch.{TypedCatch}
 use Rattle.typed_program.specs.declared.stmt.TypedStart.TheVariants as Start
 use Rattle.typed_program.specs.declared.stmt.TypedStmt.{TypedStmt}
@@ -17,7 +19,7 @@ use Rattle.typed_program.specs.declared.stmt.TypedStmt.TheOpen.{TypedStmt-F}
 use Rattle.typed_program.specs.declared.stmt.TypedStmt.TheViews.{roll-TypedStmt, roll-TypedCatch}
 use Rattle.typed_program.specs.declared.stmt.TypedStmt.TheFolds.{fold-TypedCatch, fold-roll-TypedStmt, fold-roll-TypedCatch, map-TypedStmt}
 use Rattle.request_states.specs.Runs.{Setting, site_of}
-use Rattle.request_states.specs.Statements.{insert_these, records_of}
+use Rattle.request_states.specs.Statements.{op_of, records_of, save_these}
 use Rattle.request_states.specs.States.{Res, charge, set_local}
 use Rattle.request_states.specs.Values.{null}
 use Rattle.apex_meaning.specs.Exceptions.{Clause, Kind, catching, caught_by, clause_for, if_takes, kind_of, takes_form, throw as thrown}
@@ -121,13 +123,30 @@ has x e = record {
   is = λ s a n. rolls s a n (TypedStmt-F.Declare (record { slot = x; value = Some e.tree } ∷ [])) ∙ (λ i. behind_step (λ st. bind (e.is s a n i st) (λ v s1. Gives tt (set_local x v s1))));
 }
 
--- one record is inserted
-abbrev pub insert : ℕ → ExprOf → StmtOf
-insert object e = record {
-  tree = roll-TypedStmt (TypedStmt-F.Dml Insert (One object) e.tree);
-  does = λ s a n. behind_step (λ st. bind (e.does s a n st) (λ v s1. insert_these (site_of s) (records_of (One object) v s1.world.heap) s1));
-  is = λ s a n. rolls s a n (TypedStmt-F.Dml Insert (One object) e.tree) ∙ (λ i. behind_step (λ st. bind (e.is s a n i st) (λ v s1. insert_these (site_of s) (records_of (One object) v s1.world.heap) s1)));
+-- records are saved
+abbrev pub saves : DmlOp → Saved → ExprOf → StmtOf
+saves op what e = record {
+  tree = roll-TypedStmt (TypedStmt-F.Dml op what e.tree);
+  does = λ s a n. behind_step (λ st. bind (e.does s a n st) (λ v s1. save_these (site_of s) (op_of op) (records_of what v s1.world.heap) s1));
+  is = λ s a n. rolls s a n (TypedStmt-F.Dml op what e.tree) ∙ (λ i. behind_step (λ st. bind (e.is s a n i st) (λ v s1. save_these (site_of s) (op_of op) (records_of what v s1.world.heap) s1)));
 }
+
+-- one record of an object
+abbrev pub insert : ℕ → ExprOf → StmtOf
+insert object e = saves Insert (One object) e
+
+abbrev pub update : ℕ → ExprOf → StmtOf
+update object e = saves Update (One object) e
+
+abbrev pub delete : ℕ → ExprOf → StmtOf
+delete object e = saves Delete (One object) e
+
+abbrev pub upsert : ℕ → ExprOf → StmtOf
+upsert object e = saves Upsert (One object) e
+
+-- a list of records
+abbrev pub upsert_all : ℕ → ExprOf → StmtOf
+upsert_all object e = saves Upsert (Many object) e
 
 abbrev pub declare : ℕ → StmtOf
 declare x = record {

@@ -5,7 +5,7 @@ ghost use Rattle.std.specs.Option.{option_copied};
 ghost use Rattle.apex_meaning.specs.Exceptions as exceptions;
 ghost use Rattle.platform_errors.specs.Messages as messages;
 ghost use Rattle.txn_heap.specs.declared.thing.Thing.TheVariants as T;
-ghost use Rattle.save_procedure.specs.Does.{HasIds};
+ghost use Rattle.save_stages.specs.Does.{HasIds};
 ghost use Rattle.stack_code.specs.Checked.{IsChecked};
 ghost use Rattle.stack_code.specs.Machine as machine;
 ghost use Rattle.stack_code.specs.Steps as spec;

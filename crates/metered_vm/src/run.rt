@@ -1,13 +1,13 @@
 // A request from its start, or from an answer, to its next question or its end.
 
-ghost use Rattle.std.specs.Prelude.{◌≡◌, ℕ, List, [], IfOk};
+ghost use Rattle.std.specs.Prelude.{◌≡◌, ℕ, List, [], IfOk, OnOk};
 ghost use Rattle.apex_rows.specs.declared.query.Answer.{Answer as Told};
 ghost use Rattle.request_states.specs.Refusals.{no_writes as nothing_written};
 ghost use Rattle.apex_requests.specs.declared.reply.Outcome.TheVariants as O;
 ghost use Rattle.apex_requests.specs.declared.request.Ticket.{Ticket as Place};
 ghost use Rattle.apex_schema.specs.declared.schema.Schema.{Schema as Tenant};
 ghost use Rattle.stack_code.specs.declared.image.Image.{Image as Code};
-ghost use Rattle.save_procedure.specs.Does.{IsSound, HasIds};
+ghost use Rattle.save_stages.specs.Does.{IsSound, HasIds};
 ghost use Rattle.stack_code.specs.Checked.{IsChecked};
 ghost use Rattle.stack_code.specs.Machine.{reply_of as told_by};
 ghost use Rattle.stack_code.specs.Runs as spec;
@@ -30,7 +30,7 @@ use limit_meter::{Limit, Meter};
 use program_things::{Moved, ask, count, reply_of, save};
 use request_states::no_writes;
 use save_meaning::TxnState;
-use save_procedure::given as save_given;
+use save_moves::given as save_given;
 use stack_code::{BodyAt, Config, Frame, Image, Mode, World};
 use std::alloc::Global;
 use std::mem::replace;
@@ -99,28 +99,29 @@ pub fn start(alloc: Global, block: usize) -> Vm
 }
 
 // What the machine does with the answer to what it asked.
-fn given_in(mode: Mode, answer: Answer) -> Mode
-    ensures { result ≡ machine.given_in mode answer }
+fn given_in(mode: Mode, answer: Answer) -> Result<Mode, NoMemory>
+    ensures { IfOk result (λ m. m ≡ machine.given_in mode answer) }
 {
     match mode {
-        Mode::Asking(counting) => Mode::Counting(counting, answer),
+        Mode::Asking(counting) => Ok(Mode::Counting(counting, answer)),
         Mode::Saving(places, run) => {
             let mut run = run;
-            save_given(&mut run, answer);
-            Mode::Saving(places, run)
+            save_given(&mut run, answer)?;
+            Ok(Mode::Saving(places, run))
         }
-        mode => mode,
+        mode => Ok(mode),
     }
 }
 
 // The machine has the answer, where there is one.
-fn answered(c: &mut Config, answer: Option<Answer>)
-    ensures { c.new ≡ told answer c.old }
+fn answered(c: &mut Config, answer: Option<Answer>) -> Result<(), NoMemory>
+    ensures { OnOk result (c.new ≡ told answer c.old) }
 {
     if let Some(answer) = answer {
         let mode = replace(&mut c.mode, Mode::Running);
-        c.mode = given_in(mode, answer);
+        c.mode = given_in(mode, answer)?;
     }
+    Ok(())
 }
 
 // A step where code is left, or a query or a save is on its way.
@@ -213,7 +214,7 @@ pub fn resume(
     ensures pauses { (block : ℕ) (tape : List Told) → Ran schema.now ticket image.now block tape vm.old.ops (told answer vm.old.config) → IfOk result (λ pause. Pauses schema.now ticket image.now block tape pause vm.new) }
     ensures waits { IfOk result (λ pause. Waits image.now pause vm.new) }
 {
-    answered(&mut vm.config, answer);
+    answered(&mut vm.config, answer)?;
     'steps: loop {
         let more = quick_run(image, &mut vm.config, vm.ops)?;
         vm.ops = more.saturating_add(1);

@@ -11,7 +11,7 @@ ghost use Rattle.program_things.specs.Steps.{IsStep};
 ghost use Rattle.metered_vm.specs.Control.{is_class, is_control, is_handler};
 ghost use Rattle.quick_steps.specs.Quick.{Leads};
 ghost use Rattle.save_meaning.specs.Sites.{Site};
-ghost use Rattle.save_procedure.specs.Does.{HasIds};
+ghost use Rattle.save_stages.specs.Does.{HasIds};
 
 use crate::calls::{
     act_begin, act_call, act_call_static, act_call_this, act_construct, act_new, act_new_plain,

@@ -1,7 +1,7 @@
 -- The code of every statement is a piece whose jumps stay within it.
 use Rattle.std.proofs.Common.{◌≡◌, Bool, true, List, [], ◌∷◌, ◌++◌, map, Option, None, Some, refl, sym, ap, ◌∙◌, subst}
 use Rattle.apex_num.specs.declared.cell.Cell.TheVariants as C
-use Rattle.apex_syntax.specs.declared.stmt.DmlOp.TheVariants as Dml
+use Rattle.request_states.specs.Statements.{op_of}
 use Rattle.typed_program.specs.declared.expr.TypedExpr.{TypedExpr}
 use Rattle.typed_program.specs.declared.program.Program.{Program}
 use Rattle.typed_program.specs.declared.stmt.TypedCatch.{TypedCatch}
@@ -14,7 +14,7 @@ use Rattle.typed_program.specs.declared.stmt.TypedStmt.TheViews.{roll-TypedStmt,
 use Rattle.typed_program.specs.declared.stmt.TypedStmt.TheFolds.{fold-TypedCatch, fold-roll-TypedStmt, fold-roll-TypedCatch, ind-TypedStmt, map-TypedStmt, map-TypedCatch}
 use Rattle.stack_code.specs.declared.code.Instr.{Instr}
 use Rattle.stack_code.specs.declared.code.Instr.TheVariants as I
-use Rattle.stack_code.specs.Code.{Instrs, ClauseCode, unbuilt, joined, expr_code, value_code, locals_code, effect_code, effect_or, condition_code, begin_code, choice_code, loop_code, each_code, catch_code, stmt_step, catch_step, stmt_code, block_code}
+use Rattle.stack_code.specs.Code.{Instrs, ClauseCode, joined, expr_code, value_code, locals_code, effect_code, effect_or, condition_code, begin_code, choice_code, loop_code, each_code, catch_code, stmt_step, catch_step, stmt_code, block_code}
 use Rattle.program_checks.proofs.Pieces.{Closed, Plain, closed_same, closed_nil, closed_append, closed_cons, closed_one, closed_then, closed_joined, closed_map}
 use Rattle.program_checks.proofs.Forms.{choice_closed, loop_closed, do_closed, each_closed, AllClosed, catch_closed, finally_closed}
 use Rattle.program_checks.proofs.Expressions.{expr_closed}
@@ -88,9 +88,6 @@ module _ (program : Program) (b : Bool) where
   taken : (e : TypedExpr) (i : Instr) → Plain b i → Closed b (expr_code program e ++ i ∷ [])
   taken e i f = closed_then b (expr_code program e) i f (expr_closed program b e)
 
-  unbuilt_closed : Closed b unbuilt
-  unbuilt_closed = closed_one b I.Unbuilt (λ code pc. tt)
-
   stmt_layer : (y : TypedStmt-F SuchStmt SuchCatch) → Closed b (stmt_code program (stmt_in y))
   stmt_layer (TypedStmt-F.Block ss) = stmt_is (TypedStmt-F.Block (map (λ (s : SuchStmt). s.0) ss)) _ refl (codes_closed ss)
   stmt_layer (TypedStmt-F.Declare ls) = step_is (TypedStmt-F.Declare ls) _ refl (locals_closed ls)
@@ -110,10 +107,7 @@ module _ (program : Program) (b : Bool) where
       step_is (TypedStmt-F.Try (map (λ (s : SuchStmt). s.0) ss) (map (λ (c : SuchCatch). c.0) cs) (Some (map (λ (s : SuchStmt). s.0) fs))) _ refl
       (finally_closed b (Some (codes fs)) (catch_code (map clause_code (map (λ (c : SuchCatch). c.0) cs)) (codes ss)) (codes_closed fs)
       (catch_closed b (map clause_code (map (λ (c : SuchCatch). c.0) cs)) (codes ss) (clauses_all cs) (codes_closed ss)))
-  stmt_layer (TypedStmt-F.Dml Dml.Insert what e) = step_is (TypedStmt-F.Dml Dml.Insert what e) _ refl (taken e (I.Insert what) (λ code pc. tt))
-  stmt_layer (TypedStmt-F.Dml Dml.Update what e) = step_is (TypedStmt-F.Dml Dml.Update what e) unbuilt refl unbuilt_closed
-  stmt_layer (TypedStmt-F.Dml Dml.Delete what e) = step_is (TypedStmt-F.Dml Dml.Delete what e) unbuilt refl unbuilt_closed
-  stmt_layer (TypedStmt-F.Dml Dml.Upsert what e) = step_is (TypedStmt-F.Dml Dml.Upsert what e) unbuilt refl unbuilt_closed
+  stmt_layer (TypedStmt-F.Dml op what e) = step_is (TypedStmt-F.Dml op what e) _ refl (taken e (I.Save (op_of op) what) (λ code pc. tt))
 
   catch_layer : (y : TypedCatch-F SuchStmt SuchCatch) → Closed b (clause_code (catch_in y)).code
   catch_layer y =

@@ -49,7 +49,7 @@ use Rattle.program_simulation.proofs.Frames.{Ground, ground, standing, Ready, Go
 use Rattle.program_simulation.proofs.OfLists as OfLists
 use Rattle.program_simulation.proofs.OfLists.{pushed}
 use Rattle.program_simulation.proofs.Simulates as T
-use Rattle.program_simulation.proofs.Simulates.{Around, config, Stands, stands_as}
+use Rattle.program_simulation.proofs.Simulates.{Around, config, Stands}
 
 -- ---- operands that are dropped
 

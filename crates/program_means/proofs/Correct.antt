@@ -30,7 +30,6 @@ use Rattle.typed_program.specs.declared.expr.TypedExpr.{TypedExpr}
 use Rattle.typed_program.specs.declared.program.Program.{Program}
 use Rattle.typed_program.specs.declared.stmt.TypedStmt.{TypedStmt}
 use Rattle.typed_program.specs.declared.unit.TypedClass.{TypedClass}
-use Rattle.stack_code.specs.Checked.{IsChecked}
 use Rattle.stack_code.specs.Code as Code
 use Rattle.stack_code.specs.Images as Images
 use Rattle.stack_code.specs.Images.{image_of}

@@ -32,7 +32,7 @@ use Rattle.stack_code.specs.declared.state.Mode.TheVariants as M
 use Rattle.program_means.proofs.Lists.{back_to, turn_to, turn_again, turn_out, loop_to, loop_is, loop_out, loop_length, items_to, each_is, each_out, each_end, each_length, finally_is, finally_last}
 use Rattle.program_simulation.proofs.Simulates as T
 use Rattle.program_simulation.proofs.Fetch.{fetch, past}
-use Rattle.program_simulation.proofs.Simulates.{Around, inside, config, Stands, Runs, Comes, stepped}
+use Rattle.program_simulation.proofs.Simulates.{Around, inside, config, Stands, Comes, stepped}
 
 module _ (site : Site) (image : Image) (r : Trail.Run) where
   abbrev At : Around → Instrs → List Value → State → Type 0

@@ -1,24 +1,22 @@
 -- The code of every statement does what the statement means.
-use Rattle.std.proofs.Common.{◌≡◌, ℕ, ◌+◌, Bool, true, false, List, [], ◌∷◌, ◌++◌, length, drop, map, Option, None, Some, refl, sym, ap, ◌∙◌, subst}
+use Rattle.std.proofs.Common.{◌≡◌, ℕ, ◌+◌, Bool, true, false, List, [], ◌∷◌, ◌++◌, length, map, Option, None, Some, refl, sym, ap, ◌∙◌, subst}
 use Rattle.std.specs.Prelude.{cond}
 use Rattle.std.proofs.Math.Seq.{drop-append_seam}
 use Rattle.activations.specs.declared.abrupt.Abrupt.{Abrupt}
 use Rattle.activations.specs.declared.abrupt.Abrupt.TheVariants.{Returns, Breaks, Continues}
 use Rattle.request_states.specs.Runs.{Setting, site_of}
-use Rattle.request_states.specs.Statements.{insert_these, records_of}
-use Rattle.request_states.specs.States.{State, Res, charge, set_local, unbuilt}
+use Rattle.request_states.specs.Statements.{op_of, records_of, save_these}
+use Rattle.request_states.specs.States.{State, Res, charge, set_local}
 use Rattle.request_states.specs.Values.{null}
-use Rattle.apex_num.specs.declared.cell.Cell.{Cell}
 use Rattle.apex_num.specs.declared.cell.Cell.TheVariants as C
 use Rattle.apex_num.specs.declared.kind.LimitKind.TheVariants as K
-use Rattle.apex_syntax.specs.declared.stmt.DmlOp.TheVariants as Dml
+use Rattle.apex_syntax.specs.declared.stmt.DmlOp.{DmlOp}
 use Rattle.apex_meaning.specs.Exceptions as E
 use Rattle.apex_meaning.specs.Expressions.{value_of}
-use Rattle.apex_meaning.specs.Meanings.{Again, Do, Run, Test, all_do, known_truth, looping, test, truth_of}
+use Rattle.apex_meaning.specs.Meanings.{Again, Do, Run, Test, all_do, looping, test}
 use Rattle.apex_meaning.specs.Statements as D
-use Rattle.save_meaning.specs.Results.{Gives, Stops, Stop, Leaves, bind, Holds}
+use Rattle.save_meaning.specs.Results.{Gives, Stops, Stop, Leaves, bind}
 use Rattle.save_meaning.specs.Sites.{Site}
-use Rattle.save_meaning.specs.declared.run.TxnState.{TxnState}
 use Rattle.save_meaning.proofs.Holding.{bound, weaken}
 use Rattle.tenant_trails.specs.Runs as Trail
 use Rattle.txn_heap.specs.declared.thing.Value.{Value}
@@ -35,24 +33,23 @@ use Rattle.typed_program.specs.declared.stmt.TypedStmt.{TypedStmt}
 use Rattle.typed_program.specs.declared.stmt.TypedStmt.TheFolds.{fold-TypedCatch, fold-roll-TypedCatch, fold-roll-TypedStmt, ind-TypedStmt, map-TypedCatch, map-TypedStmt}
 use Rattle.typed_program.specs.declared.stmt.TypedStmt.TheOpen.{TypedCatch-F, TypedStmt-F}
 use Rattle.typed_program.specs.declared.stmt.TypedStmt.TheViews.{roll-TypedCatch, roll-TypedStmt}
-use Rattle.value_operators.specs.Operators.{truth}
 use Rattle.stack_code.specs.Code as Code
 use Rattle.stack_code.specs.Code.{Instrs, ClauseCode, catch_code, choice_code, each_code, finally_code, joined, loop_code}
-use Rattle.stack_code.specs.Machine.{instrs_at, on_truth}
+use Rattle.stack_code.specs.Machine.{instrs_at}
 use Rattle.stack_code.specs.Steps as Steps
 use Rattle.stack_code.specs.declared.code.Instr.TheVariants as I
 use Rattle.stack_code.specs.declared.image.Image.{Image}
 use Rattle.program_means.proofs.Clauses as Clauses
 use Rattle.program_means.proofs.Lists.{choice_is, choice_else, do_over, loop_is, loop_to, turn_to}
 use Rattle.program_means.proofs.Open as Open
-use Rattle.program_means.proofs.Saves.{insert_at}
+use Rattle.program_means.proofs.Saves.{save_at}
 use Rattle.program_simulation.proofs.Classes.{IsImage}
 use Rattle.program_simulation.proofs.Fetch.{past}
 use Rattle.program_simulation.proofs.Frames.{Follows}
 use Rattle.program_simulation.proofs.OfValues as OfValues
 use Rattle.program_simulation.proofs.OfValues.{tests_at}
 use Rattle.program_simulation.proofs.Simulates as T
-use Rattle.program_simulation.proofs.Simulates.{Around, config, Stands, stands_as}
+use Rattle.program_simulation.proofs.Simulates.{Around, stands_as}
 
 -- ---- one part after the other
 
@@ -242,12 +239,10 @@ module _ (setting : Setting) (image : Image) (r : Trail.Run) (is : IsImage setti
       value_then site image r (value_of setting again names e) (λ v s. D.each_of slot how f (D.items_of v s.world.heap) s) (Code.expr_code program e) (each_code slot how is) (values e)
       (λ v a k s g. Open.each_at site image r slot how f is h v a k s g)
 
-  insert_so : (what : Saved) (e : TypedExpr) → DoesSo (λ st. bind (value_of setting again names e st) (λ v s. insert_these site (records_of what v s.world.heap) s)) (Code.expr_code program e ++ I.Insert what ∷ [])
-  insert_so what e =
-      value_then site image r (value_of setting again names e) (λ v s. insert_these site (records_of what v s.world.heap) s) (Code.expr_code program e) (I.Insert what ∷ []) (values e) (λ v a k s h. insert_at site image r what v a k [] s h)
-
-  unbuilt_so : DoesSo (λ st. unbuilt st) Code.unbuilt
-  unbuilt_so a k st post = T.unbuilt_at site image r a k [] st post
+  save_so : (op : DmlOp) (what : Saved) (e : TypedExpr) → DoesSo (λ st. bind (value_of setting again names e st) (λ v s. save_these site (op_of op) (records_of what v s.world.heap) s)) (Code.expr_code program e ++ I.Save (op_of op) what ∷ [])
+  save_so op what e =
+      value_then site image r (value_of setting again names e) (λ v s. save_these site (op_of op) (records_of what v s.world.heap) s) (Code.expr_code program e) (I.Save (op_of op) what ∷ []) (values e)
+      (λ v a k s h. save_at site image r (op_of op) what v a k [] s h)
 
   try_at : (ss : List SuchStmt) (cs : List SuchCatch) → DoesSo (λ st. E.catching program (map clause_run (catches_in cs)) (all_do (map (D.does setting again names) (stmts_in ss)) st)) (catch_code (map clause_code (catches_in cs)) (joined (map (Code.stmt_code program) (stmts_in ss))))
   try_at ss cs =
@@ -295,10 +290,7 @@ module _ (setting : Setting) (image : Image) (r : Trail.Run) (is : IsImage setti
       (step_then site image r _ (finally_code (Some (joined (map (Code.stmt_code program) (stmts_in fs)))) (catch_code (map clause_code (catches_in cs)) (joined (map (Code.stmt_code program) (stmts_in ss)))))
       (Open.finally_at site image r (λ st. E.catching program (map clause_run (catches_in cs)) (all_do (map (D.does setting again names) (stmts_in ss)) st)) (all_do (map (D.does setting again names) (stmts_in fs)))
       (catch_code (map clause_code (catches_in cs)) (joined (map (Code.stmt_code program) (stmts_in ss)))) (joined (map (Code.stmt_code program) (stmts_in fs))) (try_at ss cs) (all_at fs)))
-  stmt_layer (TypedStmt-F.Dml Dml.Insert what e) = does_stmt (TypedStmt-F.Dml Dml.Insert what e) _ _ (λ st. refl) refl (step_then site image r _ (Code.expr_code program e ++ I.Insert what ∷ []) (insert_so what e))
-  stmt_layer (TypedStmt-F.Dml Dml.Update what e) = does_stmt (TypedStmt-F.Dml Dml.Update what e) _ _ (λ st. refl) refl (step_then site image r _ Code.unbuilt unbuilt_so)
-  stmt_layer (TypedStmt-F.Dml Dml.Delete what e) = does_stmt (TypedStmt-F.Dml Dml.Delete what e) _ _ (λ st. refl) refl (step_then site image r _ Code.unbuilt unbuilt_so)
-  stmt_layer (TypedStmt-F.Dml Dml.Upsert what e) = does_stmt (TypedStmt-F.Dml Dml.Upsert what e) _ _ (λ st. refl) refl (step_then site image r _ Code.unbuilt unbuilt_so)
+  stmt_layer (TypedStmt-F.Dml op what e) = does_stmt (TypedStmt-F.Dml op what e) _ _ (λ st. refl) refl (step_then site image r _ (Code.expr_code program e ++ I.Save (op_of op) what ∷ []) (save_so op what e))
 
   -- ---- clauses
 

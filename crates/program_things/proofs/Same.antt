@@ -5,6 +5,7 @@ use Rattle.apex_num.specs.declared.cell.Cell.{Cell}
 use Rattle.apex_num.specs.declared.cell.Cell.TheVariants as C
 use Rattle.apex_num.specs.declared.kind.LimitKind.{LimitKind}
 use Rattle.apex_num.specs.declared.kind.LimitKind.TheVariants as K
+use Rattle.apex_requests.specs.declared.request.Op.{Op as Operation}
 use Rattle.apex_requests.specs.declared.request.Ticket.{Ticket}
 use Rattle.builtin_sizes.specs.Sizes.{sized}
 use Rattle.builtin_table.specs.Answers.{Answer}
@@ -39,7 +40,7 @@ use Rattle.stack_code.specs.declared.image.Image.{Image}
 use Rattle.stack_code.specs.declared.state.Config.{Config}
 use Rattle.stack_code.specs.declared.state.World.{World}
 use Rattle.stack_code.specs.Machine.{Next, Goes, charged, charged_if, next, on_calc, on_taken, on_top, raise, taken}
-use Rattle.stack_code.specs.Steps.{insert_next, operator_next}
+use Rattle.stack_code.specs.Steps.{operator_next, save_next}
 use Rattle.stack_code.specs.Things.{answered_next, builtin_next, cast_if, cast_next, cells_next, change_next, collection, copied_next, done_next, fetch_next, field_loaded, field_stored, get_next, if_exception, loaded, make_for, message_next, name_of_kind, on_exception, platform_next, set_message, set_next, sized_next, stored, text_next}
 use Rattle.program_things.specs.Kinds.{cast_fits}
 use Rattle.program_things.specs.Steps.{Takes}
@@ -206,6 +207,6 @@ told_alike (Object r) (Object q ∷ vs) c s stack = refl
 told_alike (Object r) [] c s stack = refl
 told_alike (Plain k) vs c s stack = refl
 
-pub insert_alike : (r : Option (ℕ × List ℕ)) (c : Config) (s stack : List Value) → insert_next r c stack ≡ insert_next r (with_stack c s) stack
-insert_alike None c s stack = refl
-insert_alike (Some r) c s stack = refl
+pub save_alike : (op : Operation) (r : Option (ℕ × List ℕ)) (c : Config) (s stack : List Value) → save_next op r c stack ≡ save_next op r (with_stack c s) stack
+save_alike op None c s stack = refl
+save_alike op (Some r) c s stack = refl

@@ -31,6 +31,6 @@ is_value (I.MessageThis n) = true
 is_value (I.SetOwn place) = true
 is_value (I.SetStatic k n) = true
 is_value (I.Count q) = true
-is_value (I.Insert what) = true
+is_value (I.Save op what) = true
 is_value I.Unbuilt = true
 is_value _ = false

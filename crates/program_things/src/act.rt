@@ -10,7 +10,7 @@ use crate::builtins::act_builtin;
 use crate::collections::{act_copied, act_entries, act_filled};
 use crate::ends::refused;
 use crate::moved::Moved;
-use crate::saves::{act_count, act_insert};
+use crate::saves::{act_count, act_save};
 use crate::stores::{act_change, act_set, act_set_own, act_set_static, act_store};
 use crate::things::{
     act_cast, act_cast_exception, act_exception, act_message, act_message_this, act_print,
@@ -70,7 +70,7 @@ pub fn act_value(
         Instr::SetOwn(place) => act_set_own(alloc, *place, c),
         Instr::SetStatic(class, place) => Ok(act_set_static(*class, *place, c)),
         Instr::Count(counting) => act_count(alloc, counting.get(), c),
-        Instr::Insert(saved) => act_insert(alloc, *saved, c),
+        Instr::Save(op, saved) => act_save(alloc, *op, *saved, c),
         Instr::Unbuilt => refused(alloc, c),
         _ => unreachable!(),
     }

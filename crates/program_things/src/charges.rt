@@ -1,6 +1,7 @@
 // What is charged.
 
-ghost use Rattle.std.specs.Prelude.{◌≡◌};
+ghost use Rattle.std.specs.Prelude.{◌≡◌, ◌+◌, ◌*◌};
+ghost use Rattle.apex_num.specs.declared.kind.LimitKind.TheVariants.{Alloc};
 ghost use Rattle.program_things.specs.Steps.{Charges, ChargesSize};
 
 use crate::ends::limited;
@@ -26,4 +27,12 @@ pub(crate) fn charge_sized(size: Option<u64>, c: &mut Config) -> Option<Moved>
         None => None,
         Some(size) => charge(LimitKind::Alloc, size.saturating_add(16), c),
     }
+}
+
+/// A new record that knows so many fields is charged before it is made.
+pub(crate) fn charge_record(fields: usize, c: &mut Config) -> Option<Moved>
+    ensures { Charges Alloc (32 + 32 * fields) c.old result c.new }
+{
+    let units = (fields as u64).saturating_mul(32).saturating_add(32);
+    charge(LimitKind::Alloc, units, c)
 }

@@ -26,6 +26,6 @@ pub use kinds::{
 };
 pub use moved::Moved;
 pub use operands::{leave, next, next_with, raise, set_mode, take, take_values};
-pub use records::{records_of, rows_in, set_ids};
+pub use records::{name_records, records_of, rows_in};
 pub use saves::{ask, count, save};
 pub use variables::put_at;

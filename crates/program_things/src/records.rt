@@ -10,6 +10,7 @@ use apex_list::Items;
 use apex_num::{Cell, Id, NoMemory, copy_list};
 use apex_requests::SaveRow;
 use apex_schema::Object;
+use save_statements::RecordOutcome;
 use std::alloc::Global;
 use txn_heap::{Change, Heap, Ref, Thing, Value};
 use typed_program::Saved;
@@ -111,15 +112,29 @@ pub fn rows_in(alloc: Global, heap: &Heap, places: &[usize]) -> Result<Items<Sav
     Ok(rows)
 }
 
-/// The records at these places have these Ids.
-pub fn set_ids(places: &[usize], ids: &[Id], heap: &mut Heap) -> Result<(), NoMemory>
-    ensures { OnOk result (heap.new ≡ spec.set_ids places.now ids.now heap.old) }
+// A record that was saved has its Id.
+fn name_record(place: usize, outcome: &RecordOutcome, heap: &mut Heap) -> Result<(), NoMemory>
+    ensures { OnOk result (heap.new ≡ spec.name_record place outcome.now heap.old) }
+{
+    match outcome {
+        RecordOutcome::Done(id) => heap.change(Ref { place }, Change::Know(0, Cell::Id(*id))),
+        RecordOutcome::Failed(_) => Ok(()),
+    }
+}
+
+/// Those of the records at these places that were saved have their Ids.
+pub fn name_records(
+    places: &[usize],
+    outcomes: &[RecordOutcome],
+    heap: &mut Heap,
+) -> Result<(), NoMemory>
+    ensures { OnOk result (heap.new ≡ spec.name_records places.now outcomes.now heap.old) }
 {
     for i in 0..places.len() {
-        let Some(id) = ids.get(i) else {
+        let Some(outcome) = outcomes.get(i) else {
             return Ok(());
         };
-        heap.change(Ref { place: places[i] }, Change::Know(0, Cell::Id(*id)))?;
+        name_record(places[i], outcome, heap)?;
     }
     Ok(())
 }

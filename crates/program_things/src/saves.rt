@@ -2,34 +2,38 @@
 
 ghost use Rattle.std.specs.Prelude.{◌≡◌, ◌<◌, ◌+◌, ◌^◌, ◌∷◌, pos, IfOk, OnOk};
 ghost use Rattle.request_states.specs.Statements as statements;
+ghost use Rattle.request_states.specs.Statements.{no_triggers};
 ghost use Rattle.save_meaning.specs.Counts.{count_of as rows_counted};
 ghost use Rattle.save_meaning.specs.Inserts.{rows_of_answer};
-ghost use Rattle.save_meaning.specs.Moves as saves;
-ghost use Rattle.save_procedure.specs.Does.{IsSound, HasIds, IsPaid};
+ghost use Rattle.save_measures.specs.Paid.{IsPaid};
+ghost use Rattle.save_stages.specs.Does.{IsSound, HasIds, site_of};
+ghost use Rattle.save_moves.specs.Advances.{Advances};
 ghost use Rattle.apex_rows.specs.declared.query.Question.TheVariants.{Read};
 ghost use Rattle.stack_code.specs.declared.image.Image.{Image as AnyImage};
 ghost use Rattle.stack_code.specs.declared.state.Config.{Config as AnyConfig};
 ghost use Rattle.stack_code.specs.declared.state.Mode.TheVariants as M;
 ghost use Rattle.stack_code.specs.Machine as spec;
 ghost use Rattle.stack_code.specs.Steps as steps;
-ghost use Rattle.program_things.specs.Saves.{AsksRead, BehindSave, IsStepTo};
+ghost use Rattle.program_things.specs.Saves.{BehindSave, IsStepTo};
 ghost use Rattle.program_things.specs.Steps.{IsStep};
 
 use crate::charges::charge;
-use crate::ends::limited;
+use crate::ends::{limited, refused};
 use crate::moved::Moved;
 use crate::operands::{next, raise, set_mode, take};
-use crate::records::{records_of, rows_in, set_ids};
+use crate::records::{name_records, records_of, rows_in};
 use activations::{Abrupt, Raised};
 use apex_list::{Boxed, Items};
-use apex_num::{Cell, Id, LimitKind, NoMemory};
-use apex_requests::{SaveRow, Ticket};
+use apex_num::{Cell, LimitKind, NoMemory};
+use apex_requests::{Op, Ticket};
 use apex_rows::{Answer, Question, Row};
 use apex_schema::Schema;
 use platform_errors::Thrown;
 use row_conditions::holds;
-use save_meaning::{SaveRun, Stage};
-use save_procedure::{Stopped, advance};
+use save_firings::TriggerTable;
+use save_meaning::TxnState;
+use save_moves::{Stopped, advance, first_run};
+use save_statements::{Manner, RecordOutcome, SaveRun};
 use stack_code::{Config, Counting, Mode};
 use std::alloc::Global;
 use txn_heap::Value;
@@ -72,8 +76,7 @@ pub fn act_count(alloc: Global, counting: &Counting, c: &mut Config) -> Result<M
 
 /// A COUNT() asks, and the machine waits as it is.
 pub fn ask(alloc: Global, counting: &Counting) -> Result<Moved, NoMemory>
-    ensures step { (c : AnyConfig) → IfOk result (λ m. IsStep (spec.Asks (Read counting.now.object counting.now.asked)) m c) }
-    ensures reads { IfOk result AsksRead }
+    ensures { (c : AnyConfig) → IfOk result (λ m. IsStep (spec.Asks (Read counting.now.object counting.now.asked)) m c) }
 {
     let cond = Boxed::new(alloc, counting.asked.copy()?)?;
     let object = counting.object;
@@ -139,54 +142,61 @@ pub fn count(
 
 // ---- saves
 
-// The save of records of an object.
-fn first_run(alloc: Global, object: usize, rows: Items<SaveRow>) -> SaveRun
-    ensures { result ≡ saves.first_run object rows }
-{
-    SaveRun {
-        object,
-        rest: rows,
-        place: 0,
-        ids: Items::new(alloc),
-        stage: Stage::Charge,
-    }
-}
-
-// On with the save of records, or with what is thrown where there is a null among them.
-fn insert_next(
+// On with the save of records, for code in its mode, or with what is thrown where there is a null among them.
+fn save_next(
     alloc: Global,
+    op: Op,
     records: Option<(usize, Items<usize>)>,
     c: &mut Config,
 ) -> Result<Moved, NoMemory>
     requires { c.old.top.pc + 1 < 2 ^ 64 }
-    ensures { IfOk result (λ m. IsStep (steps.insert_next records c.old c.old.top.stack) m c.new) }
+    ensures { IfOk result (λ m. IsStep (steps.save_next op records c.old c.old.top.stack) m c.new) }
 {
     c.top.pc += 1;
     match records {
         None => Ok(raise(alloc, Thrown::NullObject, c)),
         Some((object, places)) => {
             let rows = rows_in(alloc, &c.world.heap, places.as_slice())?;
-            set_mode(c, Mode::Saving(places, first_run(alloc, object, rows)));
+            let by = Manner::ByCode(c.top.here.mode);
+            let run = first_run(alloc, op, by, object, true, rows);
+            set_mode(c, Mode::Saving(places, run));
             Ok(Moved::Went)
         }
     }
 }
 
-/// Takes a record or a list of records and inserts them.
-pub fn act_insert(alloc: Global, saved: Saved, c: &mut Config) -> Result<Moved, NoMemory>
+/// Takes a record or a list of records and saves them, all or none.
+pub fn act_save(alloc: Global, op: Op, saved: Saved, c: &mut Config) -> Result<Moved, NoMemory>
     requires { c.old.top.pc + 1 < 2 ^ 64 }
-    ensures { IfOk result (λ m. IsStep (spec.on_top c.old.top.stack (λ v stack. steps.insert_next (statements.records_of saved v c.old.world.heap) c.old stack)) m c.new) }
+    ensures { IfOk result (λ m. IsStep (spec.on_top c.old.top.stack (λ v stack. steps.save_next op (statements.records_of saved v c.old.world.heap) c.old stack)) m c.new) }
 {
     let value = take(&mut c.top.stack);
     let records = records_of(alloc, saved, &value, &c.world.heap)?;
-    insert_next(alloc, records, c)
+    save_next(alloc, op, records, c)
 }
 
-// The records at these places have these Ids.
-fn name_records(places: &[usize], ids: &[Id], c: &mut Config) -> Result<(), NoMemory>
-    ensures { OnOk result (c.new ≡ spec.with_heap c.old (statements.set_ids places.now ids.now c.old.world.heap)) }
+// The records that were saved have their Ids.
+fn name_saved(places: &[usize], outcomes: &[RecordOutcome], c: &mut Config) -> Result<(), NoMemory>
+    ensures { OnOk result (c.new ≡ spec.with_heap c.old (statements.name_records places.now outcomes.now c.old.world.heap)) }
 {
-    set_ids(places, ids, &mut c.world.heap)
+    name_records(places, outcomes, &mut c.world.heap)
+}
+
+// On with a save to where it stops. No trigger fires: there are none yet.
+fn go_on(
+    alloc: Global,
+    schema: &Schema,
+    ticket: Ticket,
+    run: &mut SaveRun,
+    txn: &mut TxnState,
+) -> Result<Stopped, NoMemory>
+    requires sound { IsSound schema.now }
+    requires ids { HasIds ticket }
+    requires paid { IsPaid txn.old }
+    ensures { IfOk result (λ s. Advances (site_of schema.now ticket) no_triggers run.old txn.old s run.new txn.new) }
+{
+    let table = TriggerTable::none(alloc);
+    advance(alloc, schema, ticket, &table, run, txn)
 }
 
 /// Records are saved, up to the next question or the end of the save.
@@ -200,18 +210,19 @@ pub fn save(
 ) -> Result<Moved, NoMemory>
     requires sound { IsSound schema.now }
     requires ids { HasIds ticket }
-    requires paid { IsPaid run c.old.world.txn }
+    requires paid { IsPaid c.old.world.txn }
     ensures step { (image : AnyImage) → IfOk result (λ m. IsStepTo schema.now ticket image (spec.in_mode c.old (M.Saving places run)) m c.new) }
     ensures behind { IfOk result (λ m. BehindSave c.old m c.new) }
 {
     let mut run = run;
-    match advance(alloc, schema, ticket, &mut run, &mut c.world.txn)? {
+    match go_on(alloc, schema, ticket, &mut run, &mut c.world.txn)? {
         Stopped::Asked(question) => {
             set_mode(c, Mode::Saving(places, run));
             Ok(Moved::Asked(question))
         }
-        Stopped::Saved(ids) => {
-            name_records(places.as_slice(), ids.as_slice(), c)?;
+        Stopped::Fired(_, _) => refused(alloc, c),
+        Stopped::Ended(outcomes) => {
+            name_saved(places.as_slice(), outcomes.as_slice(), c)?;
             set_mode(c, Mode::Running);
             Ok(Moved::Went)
         }

@@ -13,6 +13,7 @@ ghost use Rattle.program_things.specs.Kinds.{cast_fits, told_as};
 ghost use Rattle.program_things.specs.Steps.{ChargesText, IsStep};
 ghost use Rattle.value_texts.specs.Texts.{text_of};
 
+use crate::charges::charge_record;
 use crate::collections::{made_next, make_thing};
 use crate::ends::limited;
 use crate::kinds::{is_built_in, is_declared, kind_of};
@@ -24,7 +25,6 @@ use apex_requests::Ticket;
 use apex_schema::Schema;
 use builtin_table::ExceptionClass;
 use platform_errors::Thrown;
-use save_procedure::charge_items;
 use stack_code::{Config, Image};
 use std::alloc::Global;
 use txn_heap::{Exception, Heap, Instance, Record, Ref, Thing, Value};
@@ -201,9 +201,9 @@ fn record_next(
     ensures { IfOk result (λ m. IsStep (things.record_next (record { schema = schema.now; ticket = ticket }) object (things.paired fields.now values.items) c.old c.old.top.stack) m c.new) }
 {
     let pairs = pair_count(fields, values.as_slice());
-    match charge_items(&mut c.world.txn.meter, 32, 32, pairs) {
-        Err(limit) => Ok(limited(limit, c)),
-        Ok(()) => {
+    match charge_record(pairs, c) {
+        Some(moved) => Ok(moved),
+        None => {
             let cells = new_cells(alloc, schema.objects.get(object), fields, values)?;
             made_next(Thing::Record(Record { object, cells }), c)
         }

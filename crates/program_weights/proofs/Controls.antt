@@ -8,7 +8,7 @@ use Rattle.apex_num.specs.declared.cell.Cell.TheVariants as C
 use Rattle.apex_num.specs.declared.kind.LimitKind.TheVariants as K
 use Rattle.apex_meaning.specs.Exceptions.{Kind, Nothing, BuiltIn, Declared}
 use Rattle.platform_errors.specs.declared.thrown.Thrown.TheVariants.{NullObject}
-use Rattle.save_procedure.specs.Does.{Paid}
+use Rattle.save_measures.specs.Paid.{IsPaid}
 use Rattle.txn_heap.specs.declared.thing.Value.{Value}
 use Rattle.txn_heap.specs.declared.thing.Value.TheVariants.{Plain, Object}
 use Rattle.typed_program.specs.declared.expr.Conversion.{Conversion}
@@ -131,7 +131,7 @@ fields_below k (c ∷ cs) =
 
 -- ---- instructions
 
-module _ (image : Image) (checked : IsChecked image) (body : BodyAt) (pc : ℕ) (hs : List Handler) (ws : List Waiting) (w0 : World) (a : AreWaiting image ws) (o : AreOpen (instrs_at image body) hs) (paid : Paid w0.txn) where
+module _ (image : Image) (checked : IsChecked image) (body : BodyAt) (pc : ℕ) (hs : List Handler) (ws : List Waiting) (w0 : World) (a : AreWaiting image ws) (o : AreOpen (instrs_at image body) hs) (paid : IsPaid w0.txn) where
   abbrev instrs : List Instr
   instrs = instrs_at image body
 
@@ -220,7 +220,7 @@ module _ (image : Image) (checked : IsChecked image) (body : BodyAt) (pc : ℕ) 
       step_falls image body pc hs ws N here s w0 (λ d. next d d.top.stack) paid (λ v p less. goes_paid image checked body pc hs ws w0 a (pc + 1) hs o (omega arith) here s v p less)
 
   -- the next item
-  item_calc : (r : Calc) (slot : ℕ) (gs : List Handler) → AreOpen instrs gs → handlers_load image instrs gs ≤ handlers_load image instrs hs + 1 → (here : Here) (s : List Value) (v : World) → Paid v.txn → left image v + 1 ≤ left image w0 →
+  item_calc : (r : Calc) (slot : ℕ) (gs : List Handler) → AreOpen instrs gs → handlers_load image instrs gs ≤ handlers_load image instrs hs + 1 → (here : Here) (s : List Value) (v : World) → IsPaid v.txn → left image v + 1 ≤ left image w0 →
       Falls image N (on_calc r (running body pc gs ws here s v) (λ x. next (with_local (running body pc gs ws here s v) slot x) s))
   item_calc (Val x) slot gs q few here s v p less = goes_paid image checked body pc hs ws w0 a (pc + 1) gs q few _ s v p less
   item_calc (Fails t) slot gs q few here s v p less = leaves_paid image checked body pc hs ws w0 a gs q few (Throws (Platform t)) pc here [] v p less
@@ -230,10 +230,10 @@ module _ (image : Image) (checked : IsChecked image) (body : BodyAt) (pc : ℕ) 
   each_falls slot how out here s =
       step_falls image body pc hs ws N here s w0 (λ d. on_handler d.top.handlers (λ h gs. each_item slot how out h gs d)) paid (λ v p less. by_handler hs refl v p less)
     where
-      out_falls : (v : World) → Paid v.txn → left image v + 1 ≤ left image w0 → Falls image N (jump out (running body pc hs ws here s v) s)
+      out_falls : (v : World) → IsPaid v.txn → left image v + 1 ≤ left image w0 → Falls image N (jump out (running body pc hs ws here s v) s)
       out_falls v p less = goes_paid image checked body pc hs ws w0 a (pc + 1 + out) hs o (omega arith) here s v p less
 
-      by_handler : (gs : List Handler) → hs ≡ gs → (v : World) → Paid v.txn → left image v + 1 ≤ left image w0 → Falls image N (on_handler gs (λ h rest. each_item slot how out h rest (running body pc hs ws here s v)))
+      by_handler : (gs : List Handler) → hs ≡ gs → (v : World) → IsPaid v.txn → left image v + 1 ≤ left image w0 → Falls image N (on_handler gs (λ h rest. each_item slot how out h rest (running body pc hs ws here s v)))
       by_handler [] e v p less = out_falls v p less
       by_handler (H.Each [] again end ∷ gs) e v p less = out_falls v p less
       by_handler (H.Each (x ∷ xs) again end ∷ gs) e v p less =

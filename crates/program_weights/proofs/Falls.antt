@@ -19,14 +19,14 @@ use Rattle.platform_errors.specs.declared.thrown.Thrown.TheVariants.{NullObject}
 use Rattle.save_meaning.specs.Counts.{count_of as rows_counted}
 use Rattle.save_meaning.specs.Inserts.{rows_of_answer}
 use Rattle.save_meaning.specs.Sites.{Site}
-use Rattle.save_procedure.specs.Does.{Paid}
+use Rattle.save_measures.specs.Paid.{IsPaid}
 use Rattle.txn_heap.specs.declared.thing.Thing.TheVariants as T
 use Rattle.txn_heap.specs.declared.thing.Value.{Value}
 use Rattle.txn_heap.specs.declared.thing.Value.TheVariants.{Plain, Object}
 use Rattle.value_operators.specs.Operators.{converted, negated, truth}
 use Rattle.stack_code.specs.Checked.{IsChecked, is_charging}
 use Rattle.stack_code.specs.Machine.{Goes, charged_if, in_mode, instrs_at, move, next, raise, taken}
-use Rattle.stack_code.specs.Steps.{act, count_next, counted, insert_next, step, thrown}
+use Rattle.stack_code.specs.Steps.{act, count_next, counted, save_next, step, thrown}
 use Rattle.stack_code.specs.Things.{is_declared}
 use Rattle.stack_code.specs.declared.code.Counting.{Counting}
 use Rattle.stack_code.specs.declared.code.Instr.{Instr}
@@ -51,7 +51,7 @@ use Rattle.program_weights.proofs.Places.{leaves, leaves_end, leaves_free, next_
 use Rattle.program_weights.proofs.Values as V
 use Rattle.program_weights.proofs.Values.{Kept, running}
 
-module _ (site : Site) (image : Image) (checked : IsChecked image) (body : BodyAt) (pc : ℕ) (hs : List Handler) (ws : List Waiting) (w0 : World) (a : AreWaiting image ws) (o : AreOpen (instrs_at image body) hs) (paid : Paid w0.txn) where
+module _ (site : Site) (image : Image) (checked : IsChecked image) (body : BodyAt) (pc : ℕ) (hs : List Handler) (ws : List Waiting) (w0 : World) (a : AreWaiting image ws) (o : AreOpen (instrs_at image body) hs) (paid : IsPaid w0.txn) where
   abbrev instrs : List Instr
   instrs = instrs_at image body
 
@@ -90,13 +90,13 @@ module _ (site : Site) (image : Image) (checked : IsChecked image) (body : BodyA
       let c = pays 0 (left image v) (left image w0) (round image) (((at image instrs (pc + 1) + handlers_load image instrs hs) + 2) + waiting_load image ws) ((at image instrs pc + handlers_load image instrs hs) + waiting_load image ws) (omega arith) (omega arith) in
       (record { checked = checked; top = o; below = a; paid = p.0 }, c))
 
-  insert_falls : (what : _) → slice_get instrs pc ≡ Some (I.Insert what) → (r : Option (ℕ × List ℕ)) (here : Here) (s stack : List Value) → Falls image N (insert_next r (running body pc hs ws here s w0) stack)
-  insert_falls what e None here s stack = leaves_free image checked body pc hs ws w0 a (I.Insert what) e refl hs o (omega arith) (Throws (Platform NullObject)) (pc + 1) here [] w0 kept
-  insert_falls what e (Some r) here s stack =
-      let x = free_at (begun image) pc instrs (I.Insert what) e refl in
+  save_falls : (op : _) (what : _) → slice_get instrs pc ≡ Some (I.Save op what) → (r : Option (ℕ × List ℕ)) (here : Here) (s stack : List Value) → Falls image N (save_next op r (running body pc hs ws here s w0) stack)
+  save_falls op what e None here s stack = leaves_free image checked body pc hs ws w0 a (I.Save op what) e refl hs o (omega arith) (Throws (Platform NullObject)) (pc + 1) here [] w0 kept
+  save_falls op what e (Some r) here s stack =
+      let x = free_at (begun image) pc instrs (I.Save op what) e refl in
       let y = later (begun image) (pc + 1) (pc + 1) instrs (le_refl (pc + 1)) in
       let z = full_some (begun image) (drop (pc + 1) instrs) in
-      (record { checked = checked; top = o; below = a; paid = record { txn = paid; place = omega arith } }, omega arith)
+      (record { checked = checked; top = o; below = a; paid = paid }, omega arith)
 
   -- ---- one instruction
 
@@ -193,8 +193,8 @@ module _ (site : Site) (image : Image) (checked : IsChecked image) (body : BodyA
   act_falls I.Hold e here s = Does.hold_falls image checked body pc hs ws w0 a o paid e hs refl here s
   act_falls I.Resume e here s = Does.resume_falls image checked body pc hs ws w0 a o paid e hs refl here s
   act_falls (I.Count q) e here s = count_falls q e here s
-  act_falls (I.Insert what) e here s =
-      V.top_falls image body pc hs ws L N (goes (I.Insert what) e refl) (raises (I.Insert what) e refl) s _ (λ v rest. insert_falls what e (records_of what v w0.heap) here s rest)
+  act_falls (I.Save op what) e here s =
+      V.top_falls image body pc hs ws L N (goes (I.Save op what) e refl) (raises (I.Save op what) e refl) s _ (λ v rest. save_falls op what e (records_of what v w0.heap) here s rest)
   act_falls I.Unbuilt e here s = tt
 
   pub running_falls : (i : Option Instr) → slice_get instrs pc ≡ i → (here : Here) (s : List Value) → Falls image N (act site image i (running body pc hs ws here s w0))
@@ -202,7 +202,7 @@ module _ (site : Site) (image : Image) (checked : IsChecked image) (body : BodyA
   running_falls (Some i) e here s = act_falls i e here s
 
 -- a COUNT() that has its answer
-counted_falls : (image : Image) (q : Counting) (b : Answer) (body : BodyAt) (pc : ℕ) (hs : List Handler) (ws : List Waiting) (here : Here) (s : List Value) (w : World) → IsChecked image → AreOpen (instrs_at image body) hs → AreWaiting image ws → Paid w.txn →
+counted_falls : (image : Image) (q : Counting) (b : Answer) (body : BodyAt) (pc : ℕ) (hs : List Handler) (ws : List Waiting) (here : Here) (s : List Value) (w : World) → IsChecked image → AreOpen (instrs_at image body) hs → AreWaiting image ws → IsPaid w.txn →
     Falls image (weight image (record { top = record { body = body; pc = pc; here = here; stack = s; handlers = hs }; mode = M.Counting q b; below = ws; world = w }))
     (counted q b (record { top = record { body = body; pc = pc; here = here; stack = s; handlers = hs }; mode = M.Counting q b; below = ws; world = w }))
 counted_falls image q b body pc hs ws here s w checked o a p = by_room (leb (count_of w.txn.meter K.Rows + 1) (limit_of K.Rows))

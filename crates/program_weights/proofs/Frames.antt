@@ -9,7 +9,7 @@ use Rattle.request_states.specs.Values.{null}
 use Rattle.apex_num.specs.declared.kind.LimitKind.TheVariants as K
 use Rattle.apex_meaning.specs.Preparing.{unprepared}
 use Rattle.limit_meter.specs.Charges.{count_of, limit_of}
-use Rattle.save_procedure.specs.Does.{Paid}
+use Rattle.save_measures.specs.Paid.{IsPaid}
 use Rattle.txn_heap.specs.Statics.{is_prepared}
 use Rattle.txn_heap.specs.declared.thing.Value.{Value}
 use Rattle.stack_code.specs.Calls.{activation, call, declared_first, enter, enter_fields, enter_statics, marked}
@@ -52,7 +52,7 @@ many j l m r h =
 
 module _ (image : Image) (checked : IsChecked image) where
   -- a state that runs stands, and its weight
-  pub stands_there : (top : Frame) (ws : List Waiting) (w : World) → AreOpen (instrs_at image top.body) top.handlers → AreWaiting image ws → Paid w.txn → Stands image (run top ws w)
+  pub stands_there : (top : Frame) (ws : List Waiting) (w : World) → AreOpen (instrs_at image top.body) top.handlers → AreWaiting image ws → IsPaid w.txn → Stands image (run top ws w)
   stands_there top ws w o a p = record { checked = checked; top = o; below = a; paid = p }
 
   -- ---- frames of initial values
@@ -80,20 +80,20 @@ module _ (image : Image) (checked : IsChecked image) where
   -- ---- calls
 
   -- a call charges a step
-  pub call_falls : (n : ℕ) (body : BodyAt) (args : List Value) (this : Value) (after : After) (caller : Here) (top : Frame) (ws : List Waiting) (w : World) → AreOpen (instrs_at image top.body) top.handlers → AreWaiting image ws → Paid w.txn →
+  pub call_falls : (n : ℕ) (body : BodyAt) (args : List Value) (this : Value) (after : After) (caller : Here) (top : Frame) (ws : List Waiting) (w : World) → AreOpen (instrs_at image top.body) top.handlers → AreWaiting image ws → IsPaid w.txn →
       left image w * round image + (frames_load image top ws + body_most image) < n + round image → Falls image n (call image body args this after caller (run top ws w))
   call_falls n body args this after caller top ws w o a p lt = by_calls (leb (count_of w.txn.meter K.Calls + 1) (limit_of K.Calls))
     where
       f : Frame
       f = record { body = body; pc = 0; here = activation image body args this caller; stack = []; handlers = [] }
 
-      entered : (v : World) → Paid v.txn → left image v + 1 ≤ left image w → Falls image n (Goes (enter image body args this after caller (run top ws v)))
+      entered : (v : World) → IsPaid v.txn → left image v + 1 ≤ left image w → Falls image n (Goes (enter image body args this after caller (run top ws v)))
       entered v q le =
           let r = at_le image body 0 in
           let s = once (left image v) (left image w) (round image) le in
           (stands_there f (record { frame = top; after = after } ∷ ws) v tt (o, a) q, omega arith)
 
-      by_steps : (v : World) → Paid v.txn → left image v ≤ left image w → (b : Bool) → leb (count_of v.txn.meter K.Steps + 1) (limit_of K.Steps) ≡ b →
+      by_steps : (v : World) → IsPaid v.txn → left image v ≤ left image w → (b : Bool) → leb (count_of v.txn.meter K.Steps + 1) (limit_of K.Steps) ≡ b →
           Falls image n (charged_if b K.Steps 1 (run top ws v) (λ e. Goes (enter image body args this after caller e)))
       by_steps v q le true e =
           let s = step_left image v q (leb-true (count_of v.txn.meter K.Steps + 1) (limit_of K.Steps) e) in
@@ -107,13 +107,13 @@ module _ (image : Image) (checked : IsChecked image) where
 
   -- ---- what runs where a constructor isn't written
 
-  declared_falls : (n : ℕ) (at' : Option MethodAt) (this : Value) (caller : Here) (top : Frame) (ws : List Waiting) (w : World) → AreOpen (instrs_at image top.body) top.handlers → AreWaiting image ws → Paid w.txn →
+  declared_falls : (n : ℕ) (at' : Option MethodAt) (this : Value) (caller : Here) (top : Frame) (ws : List Waiting) (w : World) → AreOpen (instrs_at image top.body) top.handlers → AreWaiting image ws → IsPaid w.txn →
       left image w * round image + frames_load image top ws < n → Falls image n (declared_first image at' this caller (run top ws w))
   declared_falls n None this caller top ws w o a p lt = (stands_there top ws w o a p, lt)
   declared_falls n (Some c) this caller top ws w o a p lt =
       call_falls n (B.Constructor c.class c.place) [] this A.Constructed caller top ws w o a p (omega arith)
 
-  pub begin_falls : (n : ℕ) (at' : Option MethodAt) (ks : List ℕ) (this : Value) (caller : Here) (top : Frame) (ws : List Waiting) (w : World) → AreOpen (instrs_at image top.body) top.handlers → AreWaiting image ws → Paid w.txn → length ks ≤ 34 →
+  pub begin_falls : (n : ℕ) (at' : Option MethodAt) (ks : List ℕ) (this : Value) (caller : Here) (top : Frame) (ws : List Waiting) (w : World) → AreOpen (instrs_at image top.body) top.handlers → AreWaiting image ws → IsPaid w.txn → length ks ≤ 34 →
       left image w * round image + (frames_load image top ws + 34 * (fields_full image.classes + 9)) < n → Falls image n (declared_first image at' this caller (enter_fields image (reverse ks) this caller (run top ws w)))
   begin_falls n at' ks this caller top ws w o a p few lt =
       let e = length-reverse ks in
@@ -138,7 +138,7 @@ module _ (image : Image) (checked : IsChecked image) where
   behind i ks w = record w { statics = marked i (reverse ks) w.statics }
 
   -- where classes are marked, one less is to be prepared, which pays for the initial values of their statics
-  pub prepare_falls : (n : ℕ) (chain : List ℕ) (caller : Here) (top : Frame) (ws : List Waiting) (w : World) → length chain ≤ 33 → All (λ c. c < length image.classes) chain → AreOpen (instrs_at image top.body) top.handlers → AreWaiting image ws → Paid w.txn →
+  pub prepare_falls : (n : ℕ) (chain : List ℕ) (caller : Here) (top : Frame) (ws : List Waiting) (w : World) → length chain ≤ 33 → All (λ c. c < length image.classes) chain → AreOpen (instrs_at image top.body) top.handlers → AreWaiting image ws → IsPaid w.txn →
       left image w * round image + frames_load image top ws < n →
       Falls image n (Goes (enter_statics image (unprepared w.statics chain) caller (run top ws (record w { statics = marked image (reverse (unprepared w.statics chain)) w.statics }))))
   prepare_falls n [] caller top ws w few inside o a p lt = (stands_there top ws w o a p, lt)

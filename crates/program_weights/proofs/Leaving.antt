@@ -8,7 +8,7 @@ use Rattle.activations.specs.declared.abrupt.Raised.TheVariants.{Platform, Made}
 use Rattle.activations.specs.declared.here.Here.{Here}
 use Rattle.apex_meaning.specs.Exceptions.{kind_of}
 use Rattle.save_meaning.specs.Sites.{Site}
-use Rattle.save_procedure.specs.Does.{Paid}
+use Rattle.save_measures.specs.Paid.{IsPaid}
 use Rattle.txn_heap.specs.declared.thing.Value.{Value}
 use Rattle.stack_code.specs.Checked.{IsChecked}
 use Rattle.stack_code.specs.Machine.{Goes, closed, instrs_at}
@@ -43,36 +43,36 @@ module _ (site : Site) (image : Image) (checked : IsChecked image) (body : BodyA
   from hs w = left image w * round image + ((handlers_load image instrs hs + 1) + waiting_load image ws)
 
   -- a handler that is passed over
-  passed : (h : Handler) (hs : List Handler) → AreOpen instrs (h ∷ hs) → 1 ≤ handler_load image instrs h → (why : Abrupt) (pc : ℕ) (here : Here) (s : List Value) (w : World) → Paid w.txn → Falls image (from (h ∷ hs) w) (Goes (leaves body pc hs ws why here s w))
+  passed : (h : Handler) (hs : List Handler) → AreOpen instrs (h ∷ hs) → 1 ≤ handler_load image instrs h → (why : Abrupt) (pc : ℕ) (here : Here) (s : List Value) (w : World) → IsPaid w.txn → Falls image (from (h ∷ hs) w) (Goes (leaves body pc hs ws why here s w))
   passed h hs o some why pc here s w p = (record { checked = checked; top = o.1; below = a; paid = p }, omega arith)
 
   -- one that is met: the code at a place runs
-  goes : (h : Handler) (hs gs : List Handler) (q : ℕ) → AreOpen instrs gs → at image instrs q + handlers_load image instrs gs ≤ handler_load image instrs h + handlers_load image instrs hs → (here : Here) (s : List Value) (w : World) → Paid w.txn →
+  goes : (h : Handler) (hs gs : List Handler) (q : ℕ) → AreOpen instrs gs → at image instrs q + handlers_load image instrs gs ≤ handler_load image instrs h + handlers_load image instrs hs → (here : Here) (s : List Value) (w : World) → IsPaid w.txn →
       Falls image (from (h ∷ hs) w) (Goes (running body q gs ws here s w))
   goes h hs gs q o few here s w p = (record { checked = checked; top = o; below = a; paid = p }, omega arith)
 
   -- ---- what catches
 
-  caught_at_falls : (at' slot q : ℕ) (hs : List Handler) → AreOpen instrs hs → at' + 1 ≤ q → (r : Raised) (pc : ℕ) (here : Here) (s : List Value) (w : World) → Paid w.txn →
+  caught_at_falls : (at' slot q : ℕ) (hs : List Handler) → AreOpen instrs hs → at' + 1 ≤ q → (r : Raised) (pc : ℕ) (here : Here) (s : List Value) (w : World) → IsPaid w.txn →
       Falls image (from (H.Catches at' ∷ hs) w) (caught_at site image slot q r (leaves body pc hs ws (Throws r) here s w))
   caught_at_falls at' slot q hs o le (Made r) pc here s w p =
       let l = later (begun image) (at' + 1) q instrs le in goes (H.Catches at') hs hs q o (omega arith) _ [] w p
   caught_at_falls at' slot q hs o le (Platform t) pc here s w p =
       let l = later (begun image) (at' + 1) q instrs le in goes (H.Catches at') hs hs q o (omega arith) _ [] (record w { heap = _ }) p
 
-  caught_by_falls : (at' : ℕ) (clause : Option Clause) (hs : List Handler) → AreOpen instrs hs → (r : Raised) (pc : ℕ) (here : Here) (s : List Value) (w : World) → Paid w.txn →
+  caught_by_falls : (at' : ℕ) (clause : Option Clause) (hs : List Handler) → AreOpen instrs hs → (r : Raised) (pc : ℕ) (here : Here) (s : List Value) (w : World) → IsPaid w.txn →
       Falls image (from (H.Catches at' ∷ hs) w) (caught_by site image clause at' r (leaves body pc hs ws (Throws r) here s w))
   caught_by_falls at' None hs o r pc here s w p = passed (H.Catches at') hs (tt, o) (omega arith) (Throws r) pc here [] w p
   caught_by_falls at' (Some c) hs o r pc here s w p = caught_at_falls at' c.slot (at' + 1 + c.target) hs o (omega arith) r pc here s w p
 
-  caught_falls : (at' : ℕ) (i : Option Instr) (hs : List Handler) → AreOpen instrs hs → (r : Raised) (pc : ℕ) (here : Here) (s : List Value) (w : World) → Paid w.txn →
+  caught_falls : (at' : ℕ) (i : Option Instr) (hs : List Handler) → AreOpen instrs hs → (r : Raised) (pc : ℕ) (here : Here) (s : List Value) (w : World) → IsPaid w.txn →
       Falls image (from (H.Catches at' ∷ hs) w) (caught site image i at' r (leaves body pc hs ws (Throws r) here s w))
   caught_falls at' (Some (I.OpenCatch clauses)) hs o r pc here s w p = caught_by_falls at' (clause_for site image (kind_of r w.heap) clauses) hs o r pc here s w p
   caught_falls at' _ hs o r pc here s w p = passed (H.Catches at') hs (tt, o) (omega arith) (Throws r) pc here [] w p
 
   -- ---- handlers
 
-  met_falls : (h : Handler) (hs : List Handler) (why : Abrupt) → AreOpen instrs (h ∷ hs) → (pc : ℕ) (here : Here) (s : List Value) (w : World) → Paid w.txn →
+  met_falls : (h : Handler) (hs : List Handler) (why : Abrupt) → AreOpen instrs (h ∷ hs) → (pc : ℕ) (here : Here) (s : List Value) (w : World) → IsPaid w.txn →
       Falls image (from (h ∷ hs) w) (met site image h why hs (leaves body pc (h ∷ hs) ws why here s w))
   met_falls (H.Catches k) hs (Throws r) o pc here s w p = caught_falls k (slice_get instrs k) hs o.1 r pc here s w p
   met_falls (H.Catches k) hs (Returns v) o pc here s w p = passed (H.Catches k) hs o (omega arith) (Returns v) pc here [] w p
@@ -94,30 +94,30 @@ module _ (site : Site) (image : Image) (checked : IsChecked image) (body : BodyA
 
 module _ (site : Site) (image : Image) (checked : IsChecked image) where
   -- code of the frame that waits is left too
-  thrown_on : (f : Frame) (then : After) (ws : List Waiting) → AreOpen (instrs_at image f.body) f.handlers → AreWaiting image ws → (r : Raised) (w v : World) → Paid v.txn → left image v ≡ left image w →
+  thrown_on : (f : Frame) (then : After) (ws : List Waiting) → AreOpen (instrs_at image f.body) f.handlers → AreWaiting image ws → (r : Raised) (w v : World) → IsPaid v.txn → left image v ≡ left image w →
       Falls image (left image w * round image + ((0 + 1) + waiting_load image (record { frame = f; after = then } ∷ ws))) (Goes (record { top = f; mode = M.Leaving (Throws r); below = ws; world = v }))
   thrown_on f then ws o a r w v p e =
       let x : left image v * round image ≡ left image w * round image = ap (λ l. l * round image) e in (record { checked = checked; top = o; below = a; paid = p }, omega arith)
 
   -- it goes on
-  given_on : (f : Frame) (then : After) (ws : List Waiting) → AreOpen (instrs_at image f.body) f.handlers → AreWaiting image ws → (s : List Value) (w v : World) → Paid v.txn → left image v ≡ left image w →
+  given_on : (f : Frame) (then : After) (ws : List Waiting) → AreOpen (instrs_at image f.body) f.handlers → AreWaiting image ws → (s : List Value) (w v : World) → IsPaid v.txn → left image v ≡ left image w →
       Falls image (left image w * round image + ((0 + 1) + waiting_load image (record { frame = f; after = then } ∷ ws))) (Goes (record { top = record f { stack = s }; mode = M.Running; below = ws; world = v }))
   given_on f then ws o a s w v p e =
       let x : left image v * round image ≡ left image w * round image = ap (λ l. l * round image) e in (record { checked = checked; top = o; below = a; paid = p }, omega arith)
 
-  thrown_by : (then : After) (f : Frame) (ws : List Waiting) → AreOpen (instrs_at image f.body) f.handlers → AreWaiting image ws → (r : Raised) (c : Config) → Paid c.world.txn →
+  thrown_by : (then : After) (f : Frame) (ws : List Waiting) → AreOpen (instrs_at image f.body) f.handlers → AreWaiting image ws → (r : Raised) (c : Config) → IsPaid c.world.txn →
       Falls image (left image c.world * round image + ((0 + 1) + waiting_load image (record { frame = f; after = then } ∷ ws))) (Goes (record (closed then c) { top = f; below = ws; mode = M.Leaving (Throws r) }))
   thrown_by A.Begun f ws o a r c p = thrown_on f A.Begun ws o a r c.world c.world p refl
   thrown_by A.Answered f ws o a r c p = thrown_on f A.Answered ws o a r c.world (with_calls _ c.world) (calls_paid _ c.world p) (calls_left image _ c.world)
   thrown_by A.Constructed f ws o a r c p = thrown_on f A.Constructed ws o a r c.world (with_calls _ c.world) (calls_paid _ c.world p) (calls_left image _ c.world)
 
-  given_by : (then : After) (f : Frame) (ws : List Waiting) → AreOpen (instrs_at image f.body) f.handlers → AreWaiting image ws → (s : List Value) (c : Config) → Paid c.world.txn →
+  given_by : (then : After) (f : Frame) (ws : List Waiting) → AreOpen (instrs_at image f.body) f.handlers → AreWaiting image ws → (s : List Value) (c : Config) → IsPaid c.world.txn →
       Falls image (left image c.world * round image + ((0 + 1) + waiting_load image (record { frame = f; after = then } ∷ ws))) (Goes (record (closed then c) { top = record f { stack = s }; below = ws; mode = M.Running }))
   given_by A.Begun f ws o a s c p = given_on f A.Begun ws o a s c.world c.world p refl
   given_by A.Answered f ws o a s c p = given_on f A.Answered ws o a s c.world (with_calls _ c.world) (calls_paid _ c.world p) (calls_left image _ c.world)
   given_by A.Constructed f ws o a s c p = given_on f A.Constructed ws o a s c.world (with_calls _ c.world) (calls_paid _ c.world p) (calls_left image _ c.world)
 
-  left_falls : (why : Abrupt) (below : List Waiting) → AreWaiting image below → (c : Config) → Paid c.world.txn → Falls image (left image c.world * round image + ((0 + 1) + waiting_load image below)) (left_by site image why below c)
+  left_falls : (why : Abrupt) (below : List Waiting) → AreWaiting image below → (c : Config) → IsPaid c.world.txn → Falls image (left image c.world * round image + ((0 + 1) + waiting_load image below)) (left_by site image why below c)
   left_falls (Throws r) [] a c p = tt
   left_falls (Returns v) [] a c p = tt
   left_falls Breaks [] a c p = tt
@@ -128,7 +128,7 @@ module _ (site : Site) (image : Image) (checked : IsChecked image) where
   left_falls Continues (x ∷ ws) a c p = given_by x.after x.frame ws a.0 a.1 _ c p
 
   -- code that is left
-  pub leaving_falls : (why : Abrupt) (hs : List Handler) (body : BodyAt) (pc : ℕ) (ws : List Waiting) (here : Here) (s : List Value) (w : World) → AreOpen (instrs_at image body) hs → AreWaiting image ws → Paid w.txn →
+  pub leaving_falls : (why : Abrupt) (hs : List Handler) (body : BodyAt) (pc : ℕ) (ws : List Waiting) (here : Here) (s : List Value) (w : World) → AreOpen (instrs_at image body) hs → AreWaiting image ws → IsPaid w.txn →
       Falls image (left image w * round image + ((handlers_load image (instrs_at image body) hs + 1) + waiting_load image ws)) (leaving site image why hs (leaves body pc hs ws why here s w))
   leaving_falls why [] body pc ws here s w o a p = left_falls why ws a (leaves body pc [] ws why here s w) p
   leaving_falls why (h ∷ hs) body pc ws here s w o a p = met_falls site image checked body ws a h hs why o pc here s w p

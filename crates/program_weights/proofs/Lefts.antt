@@ -9,7 +9,7 @@ use Rattle.std.proofs.lemmas.Bool.{eq-eqb}
 use Rattle.apex_num.specs.declared.kind.LimitKind.{LimitKind}
 use Rattle.apex_num.specs.declared.kind.LimitKind.TheVariants.{Queries, Rows, Dml, Saved, Depth, Steps, Alloc, Calls}
 use Rattle.limit_meter.specs.Charges.{count_of, limit_of, place_of, with_count}
-use Rattle.save_procedure.specs.Does.{Paid}
+use Rattle.save_measures.specs.Paid.{IsPaid}
 use Rattle.txn_heap.specs.Statics.{is_prepared, of_class, prepare, with_static}
 use Rattle.txn_heap.specs.declared.thing.Value.{Value}
 use Rattle.txn_heap.specs.declared.thing.Value.TheVariants.{Plain}
@@ -67,7 +67,7 @@ charging k n w = record w { txn = record (w.txn) { meter = with_count w.txn.mete
 abbrev pub with_calls : ℕ → World → World
 with_calls n w = record w { txn = record (w.txn) { meter = with_count w.txn.meter Calls n } }
 
-pub charged_paid : (k : LimitKind) (n : ℕ) (w : World) → Paid w.txn → Paid (charging k n w).txn
+pub charged_paid : (k : LimitKind) (n : ℕ) (w : World) → IsPaid w.txn → IsPaid (charging k n w).txn
 charged_paid k n w p =
     let e = p.eight in
     let m = p.minted in
@@ -75,7 +75,7 @@ charged_paid k n w p =
     let lt : place_of k < length w.txn.meter = omega arith in
     let g = grows w.txn.meter k Alloc n lt in record { eight = length-set w.txn.meter _ _ ∙ e; minted = omega arith }
 
-pub charged_left : (image : Image) (k : LimitKind) (n : ℕ) (w : World) → Paid w.txn → left image (charging k n w) ≤ left image w
+pub charged_left : (image : Image) (k : LimitKind) (n : ℕ) (w : World) → IsPaid w.txn → left image (charging k n w) ≤ left image w
 charged_left image k n w p =
     let e = p.eight in
     let s = place_small k in
@@ -84,21 +84,21 @@ charged_left image k n w p =
     let h = grows w.txn.meter k Steps n lt in omega arith
 
 -- a step that is charged leaves one less, an instance its units
-pub step_left : (image : Image) (w : World) → Paid w.txn → count_of w.txn.meter Steps + 1 ≤ limit_of Steps → left image (charging Steps 1 w) + 1 ≤ left image w
+pub step_left : (image : Image) (w : World) → IsPaid w.txn → count_of w.txn.meter Steps + 1 ≤ limit_of Steps → left image (charging Steps 1 w) + 1 ≤ left image w
 step_left image w p fits =
     let e = p.eight in
     let lt : place_of Steps < length w.txn.meter = omega arith in
     let g = grows w.txn.meter Steps Alloc 1 lt in
     let h = counted w.txn.meter Steps (count_of w.txn.meter Steps + 1) lt in omega arith
 
-pub alloc_left : (image : Image) (n : ℕ) (w : World) → Paid w.txn → count_of w.txn.meter Alloc + n ≤ limit_of Alloc → left image (charging Alloc n w) + n ≤ left image w
+pub alloc_left : (image : Image) (n : ℕ) (w : World) → IsPaid w.txn → count_of w.txn.meter Alloc + n ≤ limit_of Alloc → left image (charging Alloc n w) + n ≤ left image w
 alloc_left image n w p fits =
     let e = p.eight in
     let lt : place_of Alloc < length w.txn.meter = omega arith in
     let g = grows w.txn.meter Alloc Steps n lt in
     let h = counted w.txn.meter Alloc (count_of w.txn.meter Alloc + n) lt in omega arith
 
-pub calls_paid : (n : ℕ) (w : World) → Paid w.txn → Paid (with_calls n w).txn
+pub calls_paid : (n : ℕ) (w : World) → IsPaid w.txn → IsPaid (with_calls n w).txn
 calls_paid n w p =
     let m = p.minted in
     let o = calls_other w.txn.meter n in record { eight = length-set w.txn.meter _ _ ∙ p.eight; minted = omega arith }

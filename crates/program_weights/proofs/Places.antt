@@ -9,7 +9,7 @@ use Rattle.activations.specs.declared.here.Here.{Here}
 use Rattle.apex_num.specs.declared.kind.LimitKind.TheVariants as K
 use Rattle.limit_meter.specs.Charges.{count_of, limit_of}
 use Rattle.platform_errors.specs.declared.thrown.Thrown.{Thrown}
-use Rattle.save_procedure.specs.Does.{Paid}
+use Rattle.save_measures.specs.Paid.{IsPaid}
 use Rattle.txn_heap.specs.declared.thing.Value.{Value}
 use Rattle.stack_code.specs.Checked.{IsChecked, is_charging}
 use Rattle.stack_code.specs.Machine.{Next, Goes, charged, charged_if, instrs_at, next, raise}
@@ -35,7 +35,7 @@ leaves body pc hs ws why here s w = record { top = record { body = body; pc = pc
 -- ---- charges
 
 module _ (image : Image) (body : BodyAt) (pc : ℕ) (hs : List Handler) (ws : List Waiting) (n : ℕ) where
-  pub step_falls : (here : Here) (s : List Value) (w : World) (go : Config → Next) → Paid w.txn → ((v : World) → Paid v.txn → left image v + 1 ≤ left image w → Falls image n (go (running body pc hs ws here s v))) →
+  pub step_falls : (here : Here) (s : List Value) (w : World) (go : Config → Next) → IsPaid w.txn → ((v : World) → IsPaid v.txn → left image v + 1 ≤ left image w → Falls image n (go (running body pc hs ws here s v))) →
       Falls image n (charged K.Steps 1 (running body pc hs ws here s w) go)
   step_falls here s w go p h = by_room (leb (count_of w.txn.meter K.Steps + 1) (limit_of K.Steps)) refl
     where
@@ -43,7 +43,7 @@ module _ (image : Image) (body : BodyAt) (pc : ℕ) (hs : List Handler) (ws : Li
       by_room true e = h (charging K.Steps 1 w) (charged_paid K.Steps 1 w p) (step_left image w p (leb-true (count_of w.txn.meter K.Steps + 1) (limit_of K.Steps) e))
       by_room false e = tt
 
-  pub alloc_falls : (units : ℕ) (here : Here) (s : List Value) (w : World) (go : Config → Next) → Paid w.txn → ((v : World) → Paid v.txn → left image v + units ≤ left image w → Falls image n (go (running body pc hs ws here s v))) →
+  pub alloc_falls : (units : ℕ) (here : Here) (s : List Value) (w : World) (go : Config → Next) → IsPaid w.txn → ((v : World) → IsPaid v.txn → left image v + units ≤ left image w → Falls image n (go (running body pc hs ws here s v))) →
       Falls image n (charged K.Alloc units (running body pc hs ws here s w) go)
   alloc_falls units here s w go p h = by_room (leb (count_of w.txn.meter K.Alloc + units) (limit_of K.Alloc)) refl
     where
@@ -86,21 +86,21 @@ module _ (image : Image) (checked : IsChecked image) (body : BodyAt) (pc : ℕ) 
       (record { checked = checked; top = o; below = a; paid = p.0 }, c)
 
   -- behind the end of the code
-  pub leaves_end : slice_get code pc ≡ None → (why : Abrupt) (here : Here) (s : List Value) → Paid w0.txn → Falls image start (Goes (leaves body pc [] ws why here s w0))
+  pub leaves_end : slice_get code pc ≡ None → (why : Abrupt) (here : Here) (s : List Value) → IsPaid w0.txn → Falls image start (Goes (leaves body pc [] ws why here s w0))
   leaves_end e why here s p =
       let x = end_at (begun image) pc code e in
       (record { checked = checked; top = tt; below = a; paid = p }, omega arith)
 
   -- behind one that charged a step
   pub goes_paid : (q : ℕ) (gs : List Handler) → AreOpen code gs → handlers_load image code gs ≤ handlers_load image code hs + 1 →
-      (here : Here) (s : List Value) (w : World) → Paid w.txn → left image w + 1 ≤ left image w0 → Falls image start (Goes (running body q gs ws here s w))
+      (here : Here) (s : List Value) (w : World) → IsPaid w.txn → left image w + 1 ≤ left image w0 → Falls image start (Goes (running body q gs ws here s w))
   goes_paid q gs o few here s w p less =
       let x = at_le image body q in
       let y = once (left image w) (left image w0) (round image) less in
       (record { checked = checked; top = o; below = a; paid = p }, omega arith)
 
   pub leaves_paid : (gs : List Handler) → AreOpen code gs → handlers_load image code gs ≤ handlers_load image code hs + 1 →
-      (why : Abrupt) (q : ℕ) (here : Here) (s : List Value) (w : World) → Paid w.txn → left image w + 1 ≤ left image w0 → Falls image start (Goes (leaves body q gs ws why here s w))
+      (why : Abrupt) (q : ℕ) (here : Here) (s : List Value) (w : World) → IsPaid w.txn → left image w + 1 ≤ left image w0 → Falls image start (Goes (leaves body q gs ws why here s w))
   leaves_paid gs o few why q here s w p less =
       let y = once (left image w) (left image w0) (round image) less in
       (record { checked = checked; top = o; below = a; paid = p }, omega arith)

@@ -28,7 +28,7 @@ use Rattle.limit_meter.specs.Charges.{count_of, limit_of}
 use Rattle.platform_errors.specs.declared.thrown.Thrown.{Thrown}
 use Rattle.platform_errors.specs.declared.thrown.Thrown.TheVariants.{NullObject, Builtin, InvalidConversion}
 use Rattle.save_meaning.specs.Sites.{Site}
-use Rattle.save_procedure.specs.Does.{Paid}
+use Rattle.save_measures.specs.Paid.{IsPaid}
 use Rattle.txn_heap.specs.Changes.{changed as things_changed, thing_after}
 use Rattle.txn_heap.specs.Statics.{with_static}
 use Rattle.txn_heap.specs.declared.change.Change.TheVariants as Now
@@ -68,7 +68,7 @@ running body pc hs ws here s w = record { top = record { body = body; pc = pc; h
 
 -- what was written was paid for, and no more is left to charge
 abbrev pub Kept : Image → ℕ → World → Type 0
-Kept image m w = Paid w.txn × (left image w ≤ m)
+Kept image m w = IsPaid w.txn × (left image w ≤ m)
 
 module _ (image : Image) (body : BodyAt) (pc : ℕ) (hs : List Handler) (ws : List Waiting) (m N : ℕ)
     (go_on : (here : Here) (s stack : List Value) (w : World) → Kept image m w → Falls image N (next (running body pc hs ws here s w) stack))

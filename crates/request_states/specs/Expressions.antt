@@ -9,6 +9,7 @@ use Rattle.apex_rows.specs.declared.query.Query.TheOpen.{Query-F}
 use Rattle.apex_rows.specs.declared.query.Query.TheViews.{out-Query}
 use Rattle.apex_rows.specs.declared.query.SubQuery.{SubQuery}
 use Rattle.apex_schema.specs.declared.schema.Object.{Object as TheObject}
+use Rattle.row_meaning.specs.Conds.{is_local}
 use Rattle.save_meaning.specs.Sites.{Site}
 use Rattle.save_meaning.specs.Counts.{count}
 use Rattle.txn_heap.specs.declared.thing.Thing.TheVariants as T
@@ -51,9 +52,9 @@ abbrev pub is_none : {A : Type 0} → Option A → Bool
 is_none None = true
 is_none (Some a) = false
 
--- COUNT() with a condition or none, and nothing else
+-- COUNT() with a condition over the fields of its own object, or none, and nothing else
 abbrev pub is_count : Query-F Query SubQuery → Bool
-is_count q = q.counted && not q.locked && is_none q.limit && is_none q.offset
+is_count q = q.counted && not q.locked && is_none q.limit && is_none q.offset && is_local q.cond
 
 module _ (site : Site) where
   -- a record costs 32 units, and 32 for each cell that it is given; the values are there before

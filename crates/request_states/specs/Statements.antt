@@ -1,11 +1,21 @@
 -- What a statement saves (docs/language.md, "What code does").
-use Rattle.std.specs.Prelude.{ℕ, List, [], ◌∷◌, map, slice_get, Option, None, Some}
+use Rattle.std.specs.Prelude.{ℕ, Bool, true, List, [], ◌∷◌, map, slice_get, Option, None, Some}
 use Rattle.apex_num.specs.declared.cell.Cell.{Cell}
 use Rattle.apex_num.specs.declared.cell.Cell.TheVariants.{Id}
+use Rattle.apex_requests.specs.declared.request.Op.{Op}
+use Rattle.apex_requests.specs.declared.request.Op.TheVariants as Op
 use Rattle.apex_requests.specs.declared.request.SaveRow.{SaveRow}
+use Rattle.apex_syntax.specs.declared.stmt.DmlOp.{DmlOp}
+use Rattle.apex_syntax.specs.declared.stmt.DmlOp.TheVariants as Dml
 use Rattle.platform_errors.specs.declared.thrown.Thrown.TheVariants.{NullObject}
 use Rattle.save_meaning.specs.Sites.{Site}
-use Rattle.save_meaning.specs.Inserts.{insert}
+use Rattle.save_statements.specs.declared.pending.Act.{Act}
+use Rattle.save_statements.specs.declared.pending.Manner.TheVariants.{ByCode}
+use Rattle.save_statements.specs.declared.firing.Trigger.{Trigger}
+use Rattle.save_statements.specs.declared.statement.RecordOutcome.{RecordOutcome}
+use Rattle.save_statements.specs.declared.statement.RecordOutcome.TheVariants.{Done, Failed}
+use Rattle.save_statements.specs.Phases.{Code}
+use Rattle.save_statements.specs.Statements.{save}
 use Rattle.txn_heap.specs.Changes.{changed, thing_after}
 use Rattle.txn_heap.specs.declared.change.Change.TheVariants.{Know}
 use Rattle.txn_heap.specs.declared.thing.Thing.{Thing}
@@ -14,8 +24,8 @@ use Rattle.txn_heap.specs.declared.thing.Value.{Value}
 use Rattle.txn_heap.specs.declared.thing.Value.TheVariants.{Plain, Object}
 use Rattle.typed_program.specs.declared.stmt.Saved.{Saved}
 use Rattle.typed_program.specs.declared.stmt.Saved.TheVariants.{One, Many}
-use Rattle.save_meaning.specs.Results.{Gives, bind}
-use Rattle.request_states.specs.States.{State, Res, saved, throws, keeps, with_heap}
+use Rattle.save_meaning.specs.Results.{Gives, Stops, Closes, Unbuilt, bind}
+use Rattle.request_states.specs.States.{State, Res, saved, throws, unbuilt, keeps, with_heap}
 
 abbrev pub Do : Type 0
 Do = State → Res (Unit {0})
@@ -56,18 +66,38 @@ row_in place _ = record { key = place; id = None; cells = [] }
 abbrev pub rows_in : List Thing → List ℕ → List SaveRow
 rows_in heap ps = map (λ p. row_in p (slice_get heap p)) ps
 
--- a saved record has its Id
-abbrev pub set_ids : List ℕ → List (List ℕ) → List Thing → List Thing
-set_ids [] ids heap = heap
-set_ids (p ∷ ps) [] heap = heap
-set_ids (p ∷ ps) (i ∷ is) heap = set_ids ps is (changed p (thing_after (Know 0 (Id i))) heap)
+-- a record that is saved has its Id
+abbrev pub name_record : ℕ → RecordOutcome → List Thing → List Thing
+name_record p (Done id) heap = changed p (thing_after (Know 0 (Id id))) heap
+name_record p (Failed e) heap = heap
+
+abbrev pub name_records : List ℕ → List RecordOutcome → List Thing → List Thing
+name_records [] outcomes heap = heap
+name_records (p ∷ ps) [] heap = heap
+name_records (p ∷ ps) (o ∷ os) heap = name_records ps os (name_record p o heap)
+
+-- ---- what code around a save does: there are no triggers and no roll-ups yet
+
+abbrev pub no_triggers : ℕ → Act → Bool → List Trigger
+no_triggers object act before = []
+
+abbrev pub no_code : Code State
+no_code = record { triggers = no_triggers; fire = λ n c st. Stops (Closes Unbuilt) st; roll_up = λ object rs st. Gives rs st }
+
+abbrev pub op_of : DmlOp → Op
+op_of Dml.Insert = Op.Insert
+op_of Dml.Update = Op.Update
+op_of Dml.Delete = Op.Delete
+op_of Dml.Upsert = Op.Upsert
 
 module _ (site : Site) where
-  abbrev pub insert_at : ℕ → List ℕ → Do
-  insert_at object ps st =
-      bind (saved (insert keeps site object (rows_in st.world.heap ps) st)) (λ ids s. Gives tt (with_heap (set_ids ps ids s.world.heap) s))
+  -- all of the records are saved or none, for code in its mode
+  abbrev pub save_at : Op → ℕ → List ℕ → Do
+  save_at op object ps st =
+      bind (saved (save keeps site no_code op (ByCode st.here.mode) object true (rows_in st.world.heap ps) st)) (λ outcomes s.
+      Gives tt (with_heap (name_records ps outcomes s.world.heap) s))
 
   -- a null list and a null record throw before anything is charged
-  abbrev pub insert_these : Option (ℕ × List ℕ) → Do
-  insert_these None st = throws NullObject st
-  insert_these (Some r) st = insert_at r.0 r.1 st
+  abbrev pub save_these : Op → Option (ℕ × List ℕ) → Do
+  save_these op None st = throws NullObject st
+  save_these op (Some r) st = save_at op r.0 r.1 st

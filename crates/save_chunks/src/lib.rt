@@ -1,5 +1,5 @@
 //! The records of a save as lists (docs/platform.md, "Saves"): its chunks, records that stand twice, what came of the records of a
-//! chunk, and what came of all so far. No program uses it yet.
+//! chunk, and what came of all so far.
 //!
 //! Each function takes time that grows about with its records.
 #![tactic(auto)]

@@ -2,3 +2,4 @@ pub mod Placing
 pub mod Loads
 pub mod Nexts
 pub mod Parts
+pub mod Cells

@@ -1,32 +1,19 @@
 -- Records that are loaded.
-use Rattle.std.proofs.Common.{◌≡◌, refl, sym, ap, subst, ◌∙◌, ℕ, Bool, true, false, not, List, [], ◌∷◌, ◌++◌, Option, None, Some, append_assoc}
+use Rattle.std.proofs.Common.{◌≡◌, refl, sym, ap, subst, ◌∙◌, Bool, true, false, not, List, [], ◌∷◌, ◌++◌, Option, append_assoc}
 use Rattle.std.specs.Prelude.{Result, IfOk}
 use Rattle.platform_errors.specs.declared.record.RecordError.{RecordError}
 use Rattle.platform_errors.specs.declared.record.RecordError.TheVariants as Error
 use Rattle.apex_schema.specs.declared.schema.Access.{Access}
-use Rattle.apex_schema.specs.declared.schema.Object.{Object}
 use Rattle.apex_rows.specs.declared.row.Row.{Row}
-use Rattle.apex_requests.specs.declared.request.SaveRow.{SaveRow}
 use Rattle.row_access.specs.Views.{View, access_of}
 use Rattle.save_meaning.specs.Sites.{Site}
-use Rattle.save_meaning.specs.Drafts.{new_draft, when}
+use Rattle.save_meaning.specs.Drafts.{when}
 use Rattle.save_statements.specs.declared.pending.Pending.{Pending}
 use Rattle.save_statements.specs.declared.pending.Record.{Record}
 use Rattle.save_statements.specs.declared.pending.Record.TheVariants.{Going, Wrong}
 use Rattle.save_statements.specs.Records.{judged, judged_by}
-use Rattle.save_statements.specs.Loading.{new_record, is_edit, no_access}
-use Rattle.save_loading.specs.Steps.{of_draft, denied, judged_one}
-
--- ---- new rows
-
-pub last_is : {A : Type 0} (xs : List A) (x y : A) → y ∷ [] ≡ xs ++ x ∷ [] → x ≡ y
-last_is [] x y e = cc
-last_is (z ∷ []) x y e = cc
-last_is (z ∷ w ∷ xs) x y e = cc
-
-pub new_is : (user number : ℕ) (o : Object) (r : SaveRow) (id : Option (List ℕ)) → of_draft (new_draft user number o.fields id r.cells) ≡ new_record user number o r id
-new_is user number o r None = refl
-new_is user number o r (Some id) = refl
+use Rattle.save_statements.specs.Loading.{is_edit, no_access}
+use Rattle.save_loading.specs.Steps.{denied, judged_one}
 
 -- ---- records that are looked at
 

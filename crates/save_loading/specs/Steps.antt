@@ -1,5 +1,5 @@
 -- The parts of loading.
-use Rattle.std.specs.Prelude.{ℕ, not, List, map, Option, None, Some}
+use Rattle.std.specs.Prelude.{ℕ, not, List, map, Option, Some}
 use Rattle.apex_num.specs.declared.cell.Cell.{Cell}
 use Rattle.platform_errors.specs.declared.record.RecordError.{RecordError}
 use Rattle.platform_errors.specs.declared.record.RecordError.TheVariants as Error
@@ -11,8 +11,6 @@ use Rattle.apex_requests.specs.declared.request.Ticket.{Ticket}
 use Rattle.row_access.specs.Views.{View, access_of}
 use Rattle.row_meaning.specs.Overlays.{Overlay}
 use Rattle.save_meaning.specs.Sites.{Site}
-use Rattle.save_meaning.specs.declared.draft.Draft.{Draft}
-use Rattle.save_meaning.specs.declared.draft.Draft.TheVariants as D
 use Rattle.save_meaning.specs.Drafts.{when}
 use Rattle.save_meaning.specs.Inserts.{ids_of}
 use Rattle.store_inquiries.specs.Inquiries.{Inquiry, Found, and_then}
@@ -25,11 +23,6 @@ use Rattle.save_statements.specs.declared.pending.Record.TheVariants.{Going, Wro
 use Rattle.save_statements.specs.declared.statement.Placed.{Placed}
 use Rattle.save_statements.specs.Records.{pending, judged_by, going, rows_of}
 use Rattle.save_statements.specs.Loading.{old_record, is_edit, admitted, is_taken, next_cell, next_cells, next_records}
-
--- the record of a draft
-abbrev pub of_draft : Draft → Record
-of_draft (D.Going row) = Going (pending row None)
-of_draft (D.Wrong e) = Wrong e
 
 -- ---- access
 

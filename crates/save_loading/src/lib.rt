@@ -5,6 +5,7 @@
 mod access;
 mod by_id;
 mod loading;
+mod new_cells;
 mod new_rows;
 mod next_rows;
 mod old_rows;

@@ -6,18 +6,16 @@ ghost use Rattle.record_ids.specs.Ids.{most};
 ghost use Rattle.save_statements.specs.Loading as spec;
 ghost use Rattle.save_statements.specs.Records as records;
 ghost use Rattle.save_statements.specs.Statements.{unplaced};
-ghost use Rattle.save_loading.specs.Steps.{of_draft};
 
+use crate::new_cells::{new_cells, no_id};
 use apex_list::{Boxed, Items};
 use apex_num::NoMemory;
 use apex_requests::SaveRow;
 use apex_rows::Row;
 use apex_schema::Object;
-use record_drafts::load_records;
-use save_meaning::Draft;
+use platform_errors::RecordError;
 use save_statements::{Pending, Placed, Record};
 use std::alloc::Global;
-use std::array::from_ref;
 
 /// A row that goes on, with what it was.
 pub fn going(alloc: Global, row: Row, old: Option<Row>) -> Result<Record, NoMemory>
@@ -32,16 +30,6 @@ pub fn going(alloc: Global, row: Row, old: Option<Row>) -> Result<Record, NoMemo
     Ok(Record::Going(Boxed::new(alloc, pending)?))
 }
 
-// The record of a draft.
-fn of_draft(alloc: Global, draft: Draft) -> Result<Record, NoMemory>
-    ensures { IfOk result (λ r. r ≡ of_draft draft) }
-{
-    match draft {
-        Draft::Going(row) => going(alloc, row, None),
-        Draft::Wrong(error) => Ok(Record::Wrong(error)),
-    }
-}
-
 // The new row that a record would be; one with an Id is wrong.
 fn new_record(
     alloc: Global,
@@ -53,10 +41,17 @@ fn new_record(
     requires { suc user < most }
     ensures { IfOk result (λ r. r ≡ spec.new_record user number object.now row.now row.now.id) }
 {
-    let mut drafts = load_records(alloc, user, number, object, from_ref(row))?;
-    match drafts.pop() {
-        Some(draft) => of_draft(alloc, draft),
-        None => unreachable!(),
+    match row.id {
+        Some(_) => Ok(Record::Wrong(RecordError::IdInInsert)),
+        None => {
+            let cells = new_cells(alloc, user, object.fields.as_slice(), row.cells.as_slice())?;
+            let row = Row {
+                object: number,
+                id: no_id(),
+                cells,
+            };
+            going(alloc, row, None)
+        }
     }
 }
 

@@ -1,5 +1,5 @@
--- The records of a save on their way, and what is found wrong with them (docs/platform.md, "Saves").
-use Rattle.std.specs.Prelude.{ℕ, zero, suc, ◌&&◌, ◌||◌, not, nat_lt, eqb, Bool, true, false, cond, List, [], ◌∷◌, ◌++◌, map, codes, bytes_eq, slice_get, Option, None, Some}
+-- The records of a save, and what is found wrong with them (docs/platform.md, "Saves").
+use Rattle.std.specs.Prelude.{ℕ, zero, suc, ◌&&◌, ◌||◌, not, nat_lt, eqb, Bool, true, false, cond, List, [], ◌∷◌, ◌++◌, map, codes, bytes_eq, Option, None, Some}
 use Rattle.std.specs.List.{list_any}
 use Rattle.std.specs.declared.cmp.Ordering.{Ordering}
 use Rattle.std.specs.declared.cmp.Ordering.TheVariants.{Less, Equal, Greater}
@@ -10,50 +10,19 @@ use Rattle.platform_errors.specs.declared.record.RecordError.TheVariants as Erro
 use Rattle.apex_schema.specs.declared.schema.FieldKind.{FieldKind}
 use Rattle.apex_schema.specs.declared.schema.FieldKind.TheVariants as Kind
 use Rattle.apex_schema.specs.declared.schema.Field.{Field}
-use Rattle.apex_schema.specs.declared.schema.RuleHead.{RuleHead}
-use Rattle.apex_schema.specs.declared.schema.Object.{Object}
-use Rattle.apex_rows.specs.declared.query.Cond.{Cond}
-use Rattle.apex_rows.specs.declared.query.Cond.TheVariants.{Within}
-use Rattle.apex_rows.specs.declared.query.Term.TheVariants.{Given}
-use Rattle.apex_rows.specs.declared.query.Terms.TheVariants.{Given as GivenAll}
 use Rattle.apex_rows.specs.declared.row.Row.{Row}
-use Rattle.apex_schema.specs.declared.rule.Rule.{Rule}
 use Rattle.row_meaning.specs.Cells.{bytes_cmp}
 use Rattle.row_meaning.specs.Conds.{cell_of}
 use Rattle.row_meaning.specs.Overlays.{Overlay, touched_ids}
-use Rattle.row_meaning.specs.Rules.{is_blank, text_length, rule_value}
+use Rattle.row_meaning.specs.Rules.{is_blank, text_length}
 use Rattle.row_meaning.specs.Stores.{has_id}
 use Rattle.row_meaning.specs.Users.{user_id}
-use Rattle.save_meaning.specs.declared.draft.Draft.{Draft}
-use Rattle.save_meaning.specs.declared.draft.Draft.TheVariants.{Going, Wrong}
 use Rattle.save_meaning.specs.declared.draft.Reference.{Reference}
-
-abbrev pub judged_by : Row → Option RecordError → Draft
-judged_by row None = Going row
-judged_by row (Some e) = Wrong e
 
 -- the first of two that is there
 abbrev pub or_later : {A : Type 0} → Option A → Option A → Option A
 or_later None later = later
 or_later (Some first) later = Some first
-
--- each record that goes on is looked at
-abbrev pub judged : (Row → Option RecordError) → List Draft → List Draft
-judged test [] = []
-judged test (Going row ∷ ds) = judged_by row (test row) ∷ judged test ds
-judged test (Wrong e ∷ ds) = Wrong e ∷ judged test ds
-
--- the rows of those that go on
-abbrev pub going : List Draft → List Row
-going [] = []
-going (Going row ∷ ds) = row ∷ going ds
-going (Wrong e ∷ ds) = going ds
-
--- the first record with an error: its place, counted from this one on
-abbrev pub first_wrong : ℕ → List Draft → Option (ℕ × RecordError)
-first_wrong n [] = None
-first_wrong n (Going row ∷ ds) = first_wrong (suc n) ds
-first_wrong n (Wrong e ∷ ds) = Some (n, e)
 
 abbrev pub when : Bool → RecordError → Option RecordError
 when true e = Some e
@@ -79,10 +48,6 @@ new_cells user n (f ∷ fs) (k ∷ ks) = new_cell user n f k ∷ new_cells user 
 -- the Id of a row that has none yet
 abbrev pub no_id : List ℕ
 no_id = codes "000000000000000"
-
-abbrev pub new_draft : ℕ → ℕ → List Field → Option (List ℕ) → List (Option Cell) → Draft
-new_draft user object fields (Some id) known = Wrong Error.IdInInsert
-new_draft user object fields None known = Going (record { object = object; id = no_id; cells = new_cells user 0 fields known })
 
 -- ---- references
 
@@ -114,31 +79,15 @@ abbrev pub with_ids : List (List ℕ) → List (List ℕ) → List (List ℕ)
 with_ids [] is = is
 with_ids (id ∷ ids) is = with_ids ids (with_id id is)
 
--- the Ids that a field of these rows names and the transaction didn't touch, rising, each once
+-- those of these Ids that the transaction didn't touch
 abbrev pub untouched : Overlay → List (List ℕ) → List (List ℕ)
 untouched overlay [] = []
 untouched overlay (i ∷ is) = cond (has_id (touched_ids overlay) i) (untouched overlay is) (i ∷ untouched overlay is)
-
-abbrev pub named_in : ℕ → List Row → List (List ℕ)
-named_in field [] = []
-named_in field (row ∷ rows) = id_in (cell_of row field) ++ named_in field rows
-
-abbrev pub wanted : Overlay → ℕ → List Row → List (List ℕ)
-wanted overlay field rows = untouched overlay (with_ids (named_in field rows) [])
-
--- the rows with these Ids
-abbrev pub by_ids : List (List ℕ) → Cond
-by_ids ids = Within (record { parents = []; field = 0 }) false (GivenAll (map (λ (i : List ℕ). Given (Id i)) ids))
 
 -- a cell names a row that isn't among these
 abbrev pub dangles : List Row → Cell → Bool
 dangles rows (Id i) = not (list_any (λ (r : Row). bytes_eq r.id i) rows)
 dangles rows _ = false
-
--- the first reference of a row that names none of the rows which its field may name
-abbrev pub dangling : List (Reference × List Row) → Row → Option RecordError
-dangling [] row = None
-dangling (p ∷ ps) row = or_later (when (dangles p.1 (cell_of row p.0.field)) (Error.NoReference p.0.name)) (dangling ps row)
 
 abbrev pub is_user : ℕ → Cell → Bool
 is_user zero c = false
@@ -150,12 +99,7 @@ abbrev pub name_of : Option Field → List ℕ
 name_of None = []
 name_of (Some f) = f.name
 
--- the owner is no user, or a reference names no row
-abbrev pub bad_reference : ℕ → List Field → List (Reference × List Row) → Row → Option RecordError
-bad_reference users fields found row =
-    or_later (when (not (is_user users (cell_of row 1))) (Error.NoReference (name_of (slice_get fields 1)))) (dangling found row)
-
--- ---- validation of a new row
+-- ---- validation
 
 abbrev pub is_needed : Field → FieldKind → Bool
 is_needed f (Kind.MasterDetail link) = true
@@ -179,20 +123,6 @@ too_long n (f ∷ fs) row = or_later (when (is_long f.kind (cell_of row n)) (Err
 abbrev pub is_bad_level : Cell → Bool
 is_bad_level (Text t) = not (bytes_eq t (codes "Read") || bytes_eq t (codes "Edit"))
 is_bad_level _ = false
-
--- the first rule that holds, with its message
-abbrev pub broken : List Rule → List RuleHead → Row → Option RecordError
-broken [] heads row = None
-broken (r ∷ rs) [] row = None
-broken (r ∷ rs) (h ∷ hs) row = or_later (when (rule_value row None r) (Error.Custom h.message)) (broken rs hs row)
-
--- what is found wrong with a new row of an object; `shares` where it is RowShare
-abbrev pub invalid : Bool → Object → Row → Option RecordError
-invalid shares o row =
-    or_later (lacking 0 o.fields row)
-    (or_later (too_long 0 o.fields row)
-    (or_later (when (shares && is_bad_level (cell_of row 4)) Error.BadLevel)
-    (broken o.rules o.heads row)))
 
 -- ---- the row that is written
 

@@ -1,11 +1,6 @@
--- What is to be shown of saves.
+-- What is to be shown of counts.
 use Rattle.std.specs.Prelude.{◌≡◌, ◌&&◌, eqb, ℕ, List, min, length, filter}
-use Rattle.apex_requests.specs.declared.request.SaveRow.{SaveRow}
-use Rattle.platform_errors.specs.declared.thrown.Thrown.{Thrown}
-use Rattle.save_meaning.specs.Sites.{Site}
-use Rattle.save_meaning.specs.Results.{Leaves, Stops}
 use Rattle.save_meaning.specs.Transactions.{Txn, Keeps}
-use Rattle.save_meaning.specs.Inserts.{insert}
 use Rattle.save_meaning.specs.Counts.{IsKeyed, count_of, count_most}
 use Rattle.apex_rows.specs.declared.query.Cond.{Cond}
 use Rattle.apex_rows.specs.declared.query.Cond.TheVariants.{All}
@@ -17,12 +12,6 @@ use Rattle.row_meaning.specs.Stores.{answer}
 -- a state that is nothing but what a save sees
 abbrev pub alone : Keeps Txn
 alone = record { txn = λ t. t; with_txn = λ t s. t }
-
--- an insert that throws leaves the overlay as it found it
-abbrev pub FailedInsertsChangeNothing : Type 0
-FailedInsertsChangeNothing =
-    (site : Site) (object : ℕ) (rows : List SaveRow) (t later : Txn) (why : Thrown) →
-    insert alone site object rows t ≡ Stops (Leaves why) later → later.overlay ≡ t.overlay
 
 -- what is counted over a store's answer is how many rows of the whole store, as the transaction sees it, meet the condition
 abbrev pub CountsAreOfTheWholeStore : Type 0

@@ -5,5 +5,4 @@ pub mod Drafts
 pub mod Inserts
 pub mod Counts
 pub mod Laws
-pub mod Moves
 pub mod MoveLaws

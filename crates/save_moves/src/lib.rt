@@ -1,5 +1,5 @@
 //! The moves of every statement that saves, as they run: from where it stands to its next question, its next firing of a trigger or
-//! its end (docs/platform.md, "Saves"). No program uses it yet.
+//! its end (docs/platform.md, "Saves").
 #![tactic(auto)]
 
 mod asks;

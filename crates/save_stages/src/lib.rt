@@ -1,6 +1,6 @@
 //! The moves of every statement that saves, as they run, one function a stage: how a statement, its chunks and their attempts
 //! begin, how records enter a phase, fire triggers and are written, and how an attempt ends (docs/platform.md, "Saves"). The
-//! stages that ask stand in a crate above. No program uses it yet.
+//! stages that ask stand in a crate above.
 #![tactic(auto)]
 
 mod charges;

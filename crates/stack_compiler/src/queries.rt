@@ -7,7 +7,7 @@ use crate::emitted::put;
 use apex_list::Boxed;
 use apex_num::NoMemory;
 use apex_rows::{Cond, Query};
-use row_conditions::local_part;
+use row_conditions::{is_local, local_part};
 use stack_code::{Counting, Instr};
 use std::alloc::Global;
 use typed_program::TypedBind;
@@ -40,7 +40,8 @@ pub fn emit_query(
     let is_plain = query.counted
         && !query.locked
         && query.limit.is_none()
-        && query.offset.is_none();
+        && query.offset.is_none()
+        && is_local(&query.cond);
     if is_plain && binds.is_empty() {
         emit_count(code, alloc, query.object, &query.cond)
     } else {

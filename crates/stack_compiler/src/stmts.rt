@@ -2,6 +2,7 @@
 
 ghost use Rattle.std.specs.Prelude.{◌≡◌, [], ◌∷◌, ◌++◌, map, option_map, Some, IfOk, OnOk};
 ghost use Rattle.std.specs.Option.{option_copied};
+ghost use Rattle.request_states.specs.Statements as statements;
 ghost use Rattle.stack_code.specs.Code as spec;
 ghost use Rattle.stack_compiler.specs.Clauses.{clause_of};
 ghost use Rattle.stack_compiler.specs.Codes as codes;
@@ -14,6 +15,7 @@ use crate::layout::Layout;
 use crate::turns::{emit_do, emit_each, emit_for, emit_locals, emit_value, emit_while};
 use apex_list::{Boxed, Items};
 use apex_num::NoMemory;
+use apex_requests::Op;
 use apex_syntax::DmlOp;
 use stack_code::Instr;
 use std::alloc::Global;
@@ -108,6 +110,18 @@ fn put_try(
     put_finally(code, tried, last)
 }
 
+// What a statement does with its records.
+fn op_of(op: DmlOp) -> Op
+    ensures { result ≡ statements.op_of op }
+{
+    match op {
+        DmlOp::Insert => Op::Insert,
+        DmlOp::Update => Op::Update,
+        DmlOp::Delete => Op::Delete,
+        DmlOp::Upsert => Op::Upsert,
+    }
+}
+
 /// The instructions of a statement.
 #[cycle(emit_stmt)]
 pub fn emit_stmt(
@@ -158,12 +172,9 @@ pub fn emit_stmt(
             let last = stmts_alone(alloc, layout, last.as_slice())?;
             put_try(code, alloc, body, clauses, last)
         }
-        TypedStmt::Dml(DmlOp::Insert, saved, expr) => {
-            emit_with(code, alloc, layout, expr, Instr::Insert(*saved))
+        TypedStmt::Dml(op, saved, expr) => {
+            emit_with(code, alloc, layout, expr, Instr::Save(op_of(*op), *saved))
         }
-        TypedStmt::Dml(DmlOp::Update, _, _)
-        | TypedStmt::Dml(DmlOp::Delete, _, _)
-        | TypedStmt::Dml(DmlOp::Upsert, _, _) => put_word(code, Instr::Unbuilt),
     }
 }
 

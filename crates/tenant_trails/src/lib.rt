@@ -1,13 +1,2 @@
-//! Which trails of events are legal for a tenant, as definitions with laws, and the trail of a tenant as it grows
-//! (docs/platform.md, "Trails"). Of events, starts and ends of requests are made so far.
+//! What a request does on a tape of answers and comes to on a store, as definitions (docs/platform.md, "Trails").
 #![tactic(auto)]
-
-mod laws;
-mod session_laws;
-mod state;
-mod trail;
-
-pub use laws::laws_of_one_session;
-pub use session_laws::laws_of_events;
-pub use state::{OpenRequest, SessionState};
-pub use trail::Trail;

@@ -10,7 +10,7 @@ use Rattle.metered_vm.proofs.run.resume.Goals as goal
 
 pub steps-init : goal.steps-init
 steps-init c =
-    subst (λ x. OnWay c.args.schema.now c.args.ticket c.args.image.now c.args.vm.now c.args.answer c.args.vm.now.ops x) (sym c.answered.ensures)
+    subst (λ x. OnWay c.args.schema.now c.args.ticket c.args.image.now c.args.vm.now c.args.answer c.args.vm.now.ops x) (sym c.in_ok-answered.ensures)
     (way_first c.args.schema.now c.args.ticket c.args.image.now c.args.vm.now c.args.answer (told_stands c.args.image.now c.args.answer c.args.vm.now.config c.requires.stands))
 
 pub quick_run-requires : goal.quick_run-requires

@@ -29,12 +29,12 @@ returns-in_ok-moved-in-Leaving-clause-keeps c =
 pub returns-in_ok-moved-in-Asking-clause-step : goal.returns-in_ok-moved-in-Asking-clause-step
 returns-in_ok-moved-in-Asking-clause-step c =
     (ask_found c.args.schema.now c.args.ticket c.args.image.now c.args.c.now c.in-Asking.counting c.get.result.now c.in_ok-moved-in-Asking.moved (sym c.replace.ensures.value ∙ c.in-Asking.is) c.get.ensures c.requires.stands
-    (λ d. c.in_ok-moved-in-Asking.ensures.step d) c.in_ok-moved-in-Asking.ensures.reads).0
+    (λ d. c.in_ok-moved-in-Asking.ensures d)).0
 
 pub returns-in_ok-moved-in-Asking-clause-keeps : goal.returns-in_ok-moved-in-Asking-clause-keeps
 returns-in_ok-moved-in-Asking-clause-keeps c =
     (ask_found c.args.schema.now c.args.ticket c.args.image.now c.args.c.now c.in-Asking.counting c.get.result.now c.in_ok-moved-in-Asking.moved (sym c.replace.ensures.value ∙ c.in-Asking.is) c.get.ensures c.requires.stands
-    (λ d. c.in_ok-moved-in-Asking.ensures.step d) c.in_ok-moved-in-Asking.ensures.reads).1
+    (λ d. c.in_ok-moved-in-Asking.ensures d)).1
 
 pub returns-in_ok-moved-in-Counting-clause-step : goal.returns-in_ok-moved-in-Counting-clause-step
 returns-in_ok-moved-in-Counting-clause-step c =

@@ -1,6 +1,0 @@
-use Rattle.std.proofs.Common.{◌≡◌, drop}
-use Rattle.save_meaning.specs.Drafts.{lacking}
-use Rattle.record_drafts.proofs.validity.lacking.Given as goal
-
-abbrev pub invariant-loop-i : goal.invariant-loop-i
-invariant-loop-i l = lacking l.i (drop l.i l.fields) l.row ≡ lacking 0 l.fields l.row

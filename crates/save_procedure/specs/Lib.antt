@@ -1,4 +1,0 @@
-pub mod Keys
-pub mod Chunks
-pub mod Does
-pub mod Goings

@@ -1,4 +1,0 @@
-pub mod Alone
-pub mod Samples
-mod Seen
-mod Legal

@@ -1,5 +1,0 @@
-use Rattle.tenant_trails.proofs.Alone.{never_refused}
-use Rattle.tenant_trails.proofs.laws.laws_of_one_session.Goals as goal
-
-pub returns : goal.returns
-returns c = record { never_refused = λ tenant n trail e l. never_refused tenant n trail e l }

@@ -1,5 +1,0 @@
-use Rattle.std.proofs.Common.{◌≡◌, replicate, None}
-use Rattle.tenant_trails.proofs.trail.Trail.new.Given as goal
-
-abbrev pub invariant-loop : goal.invariant-loop
-invariant-loop l = l.all.items ≡ replicate l.counter (record { closed = 0; running = None })
