@@ -139,7 +139,7 @@ pub unbuilt : (bytes : List ℕ) (block : List TypedStmt) (reply : Reply) (write
 unbuilt bytes block reply writes fault b comes e input =
     let same = b.only input.block input.is in
     let again : ComesTo block input.reply input.writes = subst (λ x. ComesTo x input.reply input.writes) same input.comes in
-    let is : input.reply ≡ reply = one_reply _ _ reply input.reply writes input.writes _ _ comes again in
+    let is : input.reply ≡ reply = one_reply _ _ reply input.reply writes input.writes comes.0 again.0 comes.1 again.1 in
     run_and_refused input.reply.outcome fault (ap (λ (r : Reply). r.outcome) is ∙ e) input.runs
 
 pub made_of : (made : Made) (bytes : List ℕ) (block : List TypedStmt) (kept : Image) (image old : Option Image) (reply : Reply) (writes : Writes)

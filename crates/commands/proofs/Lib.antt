@@ -1,4 +1,3 @@
 mod Blocks
-mod Sessions
 mod Statuses
 mod Tenants

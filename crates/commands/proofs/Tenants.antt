@@ -1,5 +1,5 @@
 -- What tenants come to, one behind the other.
-use Rattle.std.proofs.Common.{◌≡◌, inl, inr, refl, ap, sym, subst, ◌∙◌, ℕ, suc, ◌+◌, ◌<◌, Bool, true, false, ◌&&◌, List, [], ◌∷◌, ◌++◌, length, take, get_or, Option, None, Some, Ok, Err}
+use Rattle.std.proofs.Common.{◌≡◌, inl, inr, refl, ap, sym, subst, ◌∙◌, ℕ, suc, ◌+◌, ◌<◌, Bool, true, false, List, [], ◌∷◌, ◌++◌, length, take, get_or, Option, None, Some, Ok, Err}
 use Rattle.std.proofs.lemmas.List.{take_more}
 use Rattle.apex_requests.specs.declared.reply.Event.{Event}
 use Rattle.fault_words.specs.declared.fault.Fault.{Fault}
@@ -17,30 +17,30 @@ true_false : true ≡ false → ⊥
 true_false e = cc
 
 -- a tenant with a fault
-pub faulty : (alone : Bool) (plan : TenantPlan) (f : Fault) → IsFrontFault plan f → Comes alone plan (Some f) None []
-faulty alone plan f h = (refl, refl, inl h)
+pub faulty : (plan : TenantPlan) (f : Fault) → IsFrontFault plan f → Comes plan (Some f) None []
+faulty plan f h = (refl, refl, inl h)
 
-pub unbuilt : (alone : Bool) (plan : TenantPlan) (part : TenantPart) → (alone && is_built plan part) ≡ false → IsPart plan part → Comes alone plan (Some part_not_yet) None []
-unbuilt alone plan part e h = (refl, refl, inr (part, h, e, refl))
+pub unbuilt : (plan : TenantPlan) (part : TenantPart) → is_built plan part ≡ false → IsPart plan part → Comes plan (Some part_not_yet) None []
+unbuilt plan part e h = (refl, refl, inr (part, h, e, refl))
 
-all_more : (alone : Bool) (ps : List TenantPlan) (fs : List (Option Fault)) (is : List (Option Image)) (ts : List (List Event)) (p : TenantPlan) (f : Option Fault) (i : Option Image) (t : List Event) → AllCome alone ps fs is ts → Comes alone p f i t → AllCome alone (ps ++ p ∷ []) (fs ++ f ∷ []) (is ++ i ∷ []) (ts ++ t ∷ [])
-all_more alone [] [] [] [] p f i t a c = (c, (refl, refl, refl))
-all_more alone [] (g ∷ gs) is ts p f i t a c = cc
-all_more alone [] [] (j ∷ js) ts p f i t a c = cc
-all_more alone [] [] [] (u ∷ us) p f i t a c = cc
-all_more alone (q ∷ qs) (g ∷ gs) (j ∷ js) (u ∷ us) p f i t a c = (a.0, all_more alone qs gs js us p f i t a.1 c)
-all_more alone (q ∷ qs) [] is ts p f i t a c = absurd a
-all_more alone (q ∷ qs) (g ∷ gs) [] ts p f i t a c = absurd a
-all_more alone (q ∷ qs) (g ∷ gs) (j ∷ js) [] p f i t a c = absurd a
+all_more : (ps : List TenantPlan) (fs : List (Option Fault)) (is : List (Option Image)) (ts : List (List Event)) (p : TenantPlan) (f : Option Fault) (i : Option Image) (t : List Event) → AllCome ps fs is ts → Comes p f i t → AllCome (ps ++ p ∷ []) (fs ++ f ∷ []) (is ++ i ∷ []) (ts ++ t ∷ [])
+all_more [] [] [] [] p f i t a c = (c, (refl, refl, refl))
+all_more [] (g ∷ gs) is ts p f i t a c = cc
+all_more [] [] (j ∷ js) ts p f i t a c = cc
+all_more [] [] [] (u ∷ us) p f i t a c = cc
+all_more (q ∷ qs) (g ∷ gs) (j ∷ js) (u ∷ us) p f i t a c = (a.0, all_more qs gs js us p f i t a.1 c)
+all_more (q ∷ qs) [] is ts p f i t a c = absurd a
+all_more (q ∷ qs) (g ∷ gs) [] ts p f i t a c = absurd a
+all_more (q ∷ qs) (g ∷ gs) (j ∷ js) [] p f i t a c = absurd a
 
-pub one_more : (alone : Bool) (ps : List TenantPlan) (n : ℕ) (p : TenantPlan) (fs gs : List (Option Fault)) (is js : List (Option Image)) (ts us : List (List Event)) (f : Option Fault) (i : Option Image) (t : List Event)
-    → n < length ps → p ≡ get_or ps n p → AllCome alone (take n ps) fs is ts → Comes alone p f i t → gs ≡ fs ++ f ∷ [] → js ≡ is ++ i ∷ [] → us ≡ ts ++ t ∷ [] → AllCome alone (take (n + 1) ps) gs js us
-one_more alone ps n p fs gs is js ts us f i t lt here a c g j u =
-    subst (λ qs. AllCome alone qs gs js us) (sym (take_more ps n p lt ∙ ap (λ q. take n ps ++ q ∷ []) (sym here)))
-    (subst (λ hs. AllCome alone (take n ps ++ p ∷ []) hs js us) (sym g)
-    (subst (λ ks. AllCome alone (take n ps ++ p ∷ []) (fs ++ f ∷ []) ks us) (sym j)
-    (subst (λ vs. AllCome alone (take n ps ++ p ∷ []) (fs ++ f ∷ []) (is ++ i ∷ []) vs) (sym u)
-    (all_more alone (take n ps) fs is ts p f i t a c))))
+pub one_more : (ps : List TenantPlan) (n : ℕ) (p : TenantPlan) (fs gs : List (Option Fault)) (is js : List (Option Image)) (ts us : List (List Event)) (f : Option Fault) (i : Option Image) (t : List Event)
+    → n < length ps → p ≡ get_or ps n p → AllCome (take n ps) fs is ts → Comes p f i t → gs ≡ fs ++ f ∷ [] → js ≡ is ++ i ∷ [] → us ≡ ts ++ t ∷ [] → AllCome (take (n + 1) ps) gs js us
+one_more ps n p fs gs is js ts us f i t lt here a c g j u =
+    subst (λ qs. AllCome qs gs js us) (sym (take_more ps n p lt ∙ ap (λ q. take n ps ++ q ∷ []) (sym here)))
+    (subst (λ hs. AllCome (take n ps ++ p ∷ []) hs js us) (sym g)
+    (subst (λ ks. AllCome (take n ps ++ p ∷ []) (fs ++ f ∷ []) ks us) (sym j)
+    (subst (λ vs. AllCome (take n ps ++ p ∷ []) (fs ++ f ∷ []) (is ++ i ∷ []) vs) (sym u)
+    (all_more (take n ps) fs is ts p f i t a c))))
 
 -- a bundle that is read is no other, and has no fault
 pub refuses_bytes : (bytes line : List ℕ) (f : Fault) → IsRead bytes (Err f) → ((b : Bundle) → IsRead bytes (Ok b) → ⊥) → (listed : Bool) → line ≡ bad_line f → Refuses listed bytes line
@@ -61,16 +61,16 @@ refused_by false bytes f w i = w.1 i.bundle i.is
 pub none_refused : (listed : Bool) (bytes line : List ℕ) → Refuses listed bytes line → IsInput listed bytes → ⊥
 none_refused listed bytes line r i = refused_by listed bytes r.fault r.why i
 
-pub as_many_faults : (alone : Bool) (ps : List TenantPlan) (fs : List (Option Fault)) (is : List (Option Image)) (ts : List (List Event)) → AllCome alone ps fs is ts → length fs ≡ length ps
-as_many_faults alone [] fs is ts a = ap length a.0
-as_many_faults alone (p ∷ ps) (f ∷ fs) (i ∷ is) (t ∷ ts) a = ap suc (as_many_faults alone ps fs is ts a.1)
-as_many_faults alone (p ∷ ps) [] is ts a = absurd a
-as_many_faults alone (p ∷ ps) (f ∷ fs) [] ts a = absurd a
-as_many_faults alone (p ∷ ps) (f ∷ fs) (i ∷ is) [] a = absurd a
+pub as_many_faults : (ps : List TenantPlan) (fs : List (Option Fault)) (is : List (Option Image)) (ts : List (List Event)) → AllCome ps fs is ts → length fs ≡ length ps
+as_many_faults [] fs is ts a = ap length a.0
+as_many_faults (p ∷ ps) (f ∷ fs) (i ∷ is) (t ∷ ts) a = ap suc (as_many_faults ps fs is ts a.1)
+as_many_faults (p ∷ ps) [] is ts a = absurd a
+as_many_faults (p ∷ ps) (f ∷ fs) [] ts a = absurd a
+as_many_faults (p ∷ ps) (f ∷ fs) (i ∷ is) [] a = absurd a
 
-pub as_many_trails : (alone : Bool) (ps : List TenantPlan) (fs : List (Option Fault)) (is : List (Option Image)) (ts : List (List Event)) → AllCome alone ps fs is ts → length ts ≡ length ps
-as_many_trails alone [] fs is ts a = ap length a.2
-as_many_trails alone (p ∷ ps) (f ∷ fs) (i ∷ is) (t ∷ ts) a = ap suc (as_many_trails alone ps fs is ts a.1)
-as_many_trails alone (p ∷ ps) [] is ts a = absurd a
-as_many_trails alone (p ∷ ps) (f ∷ fs) [] ts a = absurd a
-as_many_trails alone (p ∷ ps) (f ∷ fs) (i ∷ is) [] a = absurd a
+pub as_many_trails : (ps : List TenantPlan) (fs : List (Option Fault)) (is : List (Option Image)) (ts : List (List Event)) → AllCome ps fs is ts → length ts ≡ length ps
+as_many_trails [] fs is ts a = ap length a.2
+as_many_trails (p ∷ ps) (f ∷ fs) (i ∷ is) (t ∷ ts) a = ap suc (as_many_trails ps fs is ts a.1)
+as_many_trails (p ∷ ps) [] is ts a = absurd a
+as_many_trails (p ∷ ps) (f ∷ fs) [] ts a = absurd a
+as_many_trails (p ∷ ps) (f ∷ fs) (i ∷ is) [] a = absurd a

@@ -19,15 +19,15 @@ abbrev pub is_none : {A : Type 0} → List A → Bool
 is_none [] = true
 is_none (x ∷ xs) = false
 
--- its values lead to no other row, and come from none
+-- its values come from no other row
 abbrev pub is_plain_kind : PlanKind → Bool
 is_plain_kind Kind.Text = true
 is_plain_kind Kind.Number = true
 is_plain_kind Kind.Checkbox = true
 is_plain_kind Kind.Date = true
 is_plain_kind Kind.Datetime = true
-is_plain_kind Kind.Lookup = false
-is_plain_kind Kind.MasterDetail = false
+is_plain_kind Kind.Lookup = true
+is_plain_kind Kind.MasterDetail = true
 is_plain_kind Kind.Rollup = false
 
 abbrev pub is_plain_field : FieldPlan → Bool
@@ -55,12 +55,9 @@ is_plain_request r = is_block r.work
 abbrev pub is_plain_session : SessionEntry → Bool
 is_plain_session s = list_all is_plain_request s.requests
 
--- at most one
-abbrev pub are_few : List SessionEntry → Bool
-are_few [] = true
-are_few (s ∷ []) = is_plain_session s
-are_few (s ∷ t ∷ ss) = false
+abbrev pub are_plain : List SessionEntry → Bool
+are_plain sessions = list_all is_plain_session sessions
 
--- a tenant, with its part, that has no triggers, and one session at most, whose requests are blocks
+-- a tenant, with its part, that has no triggers, and whose requests are blocks
 abbrev pub is_built : TenantPlan → TenantPart → Bool
-is_built t part = is_plain_schema t.schema && is_none part.program.triggers && are_few t.sessions
+is_built t part = is_plain_schema t.schema && is_none part.program.triggers && are_plain t.sessions

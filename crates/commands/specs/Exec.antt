@@ -59,9 +59,9 @@ pub record IsJudged (bytes : List ℕ) (block : Result (List TypedStmt) TreeFaul
 abbrev pub IsTyped : List ℕ → List TypedStmt → Type 0
 IsTyped bytes block = IsJudged bytes (Ok block)
 
--- where there is no row, the block comes to this reply, and would write this
+-- where there is no row, the block comes to this reply, and would write this, whatever rows it asks for alone
 abbrev pub ComesTo : List TypedStmt → Reply → Writes → Type 0
-ComesTo block reply writes = Evaluates [] (run (setting block) (Apex 0)) reply writes []
+ComesTo block reply writes = (grabs : List (List (List ℕ))) × Evaluates [] (run (setting block) (Apex 0)) reply writes grabs
 
 -- it isn't refused: nothing stood in its way that isn't built
 abbrev pub IsRun : Outcome → Type 0

@@ -1,5 +1,5 @@
 -- What the answers of `turns` say (docs/promises.md).
-use Rattle.std.specs.Prelude.{◌≡◌, ◌⊎◌, ◌&&◌, ℕ, eqb, Bool, true, false, List, [], ◌∷◌, ◌++◌, codes, length, Option, None, Some, Ok, Err}
+use Rattle.std.specs.Prelude.{◌≡◌, ◌⊎◌, ℕ, Bool, true, false, List, [], ◌∷◌, ◌++◌, codes, Option, None, Some, Ok, Err}
 use Rattle.apex_requests.specs.declared.reply.Event.{Event}
 use Rattle.fault_words.specs.declared.fault.Fault.{Fault}
 use Rattle.fault_words.specs.declared.fault.FaultWord.TheVariants.{NotYet}
@@ -27,28 +27,28 @@ not_yet_at place = record { place = place; word = NotYet }
 abbrev pub part_not_yet : Fault
 part_not_yet = not_yet_at (codes "part")
 
--- a tenant is deployed, its program is compiled, and it has its trail where it is alone in its bundle and built; otherwise it
--- has a fault, no code and no events. What isn't built is told only where nothing else is wrong
+-- a tenant is deployed, its program is compiled, and it has its trail where it is built; otherwise it has a fault, no code and no
+-- events. What isn't built is told only where nothing else is wrong
 abbrev pub IsRanBy : TenantPart → Option Image → List Event → Type 0
 IsRanBy part None trail = ⊥
 IsRanBy part (Some image) trail = IsRan part image trail
 
-abbrev pub Comes : Bool → TenantPlan → Option Fault → Option Image → List Event → Type 0
-Comes alone plan None image trail = (part : TenantPart) × IsPart plan part × ((alone && is_built plan part) ≡ true) × IsRanBy part image trail
-Comes alone plan (Some f) image trail =
-    (image ≡ None) × (trail ≡ []) × (IsFrontFault plan f ⊎ ((part : TenantPart) × IsPart plan part × ((alone && is_built plan part) ≡ false) × (f ≡ part_not_yet)))
+abbrev pub Comes : TenantPlan → Option Fault → Option Image → List Event → Type 0
+Comes plan None image trail = (part : TenantPart) × IsPart plan part × (is_built plan part ≡ true) × IsRanBy part image trail
+Comes plan (Some f) image trail =
+    (image ≡ None) × (trail ≡ []) × (IsFrontFault plan f ⊎ ((part : TenantPart) × IsPart plan part × (is_built plan part ≡ false) × (f ≡ part_not_yet)))
 
-abbrev pub AllCome : Bool → List TenantPlan → List (Option Fault) → List (Option Image) → List (List Event) → Type 0
-AllCome alone [] faults images trails = (faults ≡ []) × (images ≡ []) × (trails ≡ [])
-AllCome alone (p ∷ ps) (f ∷ fs) (i ∷ is) (t ∷ ts) = Comes alone p f i t × AllCome alone ps fs is ts
-AllCome alone (p ∷ ps) _ _ _ = ⊥
+abbrev pub AllCome : List TenantPlan → List (Option Fault) → List (Option Image) → List (List Event) → Type 0
+AllCome [] faults images trails = (faults ≡ []) × (images ≡ []) × (trails ≡ [])
+AllCome (p ∷ ps) (f ∷ fs) (i ∷ is) (t ∷ ts) = Comes p f i t × AllCome ps fs is ts
+AllCome (p ∷ ps) _ _ _ = ⊥
 
 -- ---- what a bundle comes to
 
 -- the images and the trails in the book are those of its tenants, and the text tells the trails
 pub record IsRun (bundle : Bundle) (book : Book) (text : List ℕ) : Type 0 where
   pub faults : List (Option Fault)
-  pub all : AllCome (eqb (length bundle.tenants) 1) bundle.tenants faults book.images book.trails
+  pub all : AllCome bundle.tenants faults book.images book.trails
   pub prints : text ≡ report bundle.tenants faults book.trails
 
 abbrev pub IsRunText : Bundle → Book → Made → Type 0

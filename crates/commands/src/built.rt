@@ -17,8 +17,10 @@ fn is_plain_field(field: &FieldPlan) -> bool
         | PlanKind::Number
         | PlanKind::Checkbox
         | PlanKind::Date
-        | PlanKind::Datetime => true,
-        PlanKind::Lookup | PlanKind::MasterDetail | PlanKind::Rollup => false,
+        | PlanKind::Datetime
+        | PlanKind::Lookup
+        | PlanKind::MasterDetail => true,
+        PlanKind::Rollup => false,
     }
 }
 
@@ -66,22 +68,18 @@ fn is_plain_session(session: &SessionEntry) -> bool
     requests.iter().all(|request| is_plain_request(request))
 }
 
-fn are_few(sessions: &[SessionEntry]) -> bool
-    ensures { result ≡ spec.are_few sessions.now }
+fn are_plain(sessions: &[SessionEntry]) -> bool
+    ensures { result ≡ spec.are_plain sessions.now }
 {
-    match sessions {
-        [] => true,
-        [session] => is_plain_session(session),
-        _ => false,
-    }
+    sessions.iter().all(|session| is_plain_session(session))
 }
 
 /// Whether a tenant, with the part that it is, is one that is run so far: objects whose rows everybody may see, with fields that
-/// lead to no other row and aren't rolled up; no triggers; and at most one session, whose requests are blocks.
+/// aren't rolled up; no triggers; and sessions whose requests are blocks.
 pub fn is_built(plan: &TenantPlan, part: &TenantPart) -> bool
     ensures { result ≡ spec.is_built plan.now part.now }
 {
     is_plain_schema(&plan.schema)
         && part.program.triggers.is_empty()
-        && are_few(plan.sessions.as_slice())
+        && are_plain(plan.sessions.as_slice())
 }

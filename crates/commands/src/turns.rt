@@ -1,6 +1,6 @@
-// The sessions of a bundle, in order.
+// The sessions of a bundle, one behind the other.
 
-ghost use Rattle.std.specs.Prelude.{◌≡◌, ◌≤◌, ◌+◌, [], eqb, length, true, IfOk, None, Some};
+ghost use Rattle.std.specs.Prelude.{◌≡◌, ◌≤◌, ◌+◌, [], true, IfOk, None, Some};
 ghost use Rattle.tenant_front.specs.Parts.{IsPart};
 ghost use Rattle.bundle_read.specs.Laws.{AreBounded, IsBounded};
 ghost use Rattle.commands.specs.Answers.{Cause, Makes, most_bytes};
@@ -63,7 +63,7 @@ fn deployed(alloc: Global, plan: &TenantPlan, part: TenantPart) -> Result<Came, 
     requires part { IsPart plan.now part }
     requires bounds { IsBounded plan.now }
     requires built { is_built_part plan.now part ≡ true }
-    ensures { IfOk result (λ came. spec.Comes true plan.now came.fault came.image came.trail) }
+    ensures { IfOk result (λ came. spec.Comes plan.now came.fault came.image came.trail) }
 {
     laws_of_parts();
     let Ran { image, trail } = run_tenant(alloc, part)?;
@@ -86,13 +86,13 @@ fn undeployed(alloc: Global, fault: Fault) -> Came
     }
 }
 
-fn came_of(alloc: Global, alone: bool, plan: &TenantPlan) -> Result<Came, NoMemory>
+fn came_of(alloc: Global, plan: &TenantPlan) -> Result<Came, NoMemory>
     requires bounds { IsBounded plan.now }
-    ensures { IfOk result (λ came. spec.Comes alone plan.now came.fault came.image came.trail) }
+    ensures { IfOk result (λ came. spec.Comes plan.now came.fault came.image came.trail) }
 {
     match front(alloc, plan) {
         Ok(part) => {
-            if alone && is_built(plan, &part) {
+            if is_built(plan, &part) {
                 deployed(alloc, plan, part)
             } else {
                 Ok(undeployed(alloc, not_yet(alloc, "part")?))
@@ -105,9 +105,8 @@ fn came_of(alloc: Global, alone: bool, plan: &TenantPlan) -> Result<Came, NoMemo
 
 fn all_came(alloc: Global, tenants: &[TenantPlan]) -> Result<AllCame, NoMemory>
     requires { AreBounded tenants.now }
-    ensures { IfOk result (λ all. spec.AllCome (eqb (length tenants.now) 1) tenants.now all.faults all.images all.trails) }
+    ensures { IfOk result (λ all. spec.AllCome tenants.now all.faults all.images all.trails) }
 {
-    let alone = tenants.len() == 1;
     let mut faults = Items::new(alloc);
     let mut all_images = Items::new(alloc);
     let mut trails = Items::new(alloc);
@@ -116,7 +115,7 @@ fn all_came(alloc: Global, tenants: &[TenantPlan]) -> Result<AllCame, NoMemory>
             fault,
             image,
             trail,
-        } = came_of(alloc, alone, &tenants[t])?;
+        } = came_of(alloc, &tenants[t])?;
         faults.push(fault)?;
         all_images.push(image)?;
         trails.push(trail)?;
@@ -173,11 +172,12 @@ fn made(alloc: Global, listed: bool, bytes: &[u8], book: &mut Book) -> Result<Ma
     }
 }
 
-/// Reads the bundle that the source gives, runs its tenants, keeps their code and their trails in the book, and writes the
-/// report to the sink. `listed` says whether a list of turns is given, which isn't built yet. The status is 0 for that, 2 where the source
-/// failed, 3 where the bytes are no bundle, 4 where the sink failed, 5 where memory was refused, and 6 where the source
-/// gives more than 67,108,864 bytes. With status 3 a line is written that tells the first fault and its place, or
-/// `bad bundle at turns: NotYet` where a list is given with a bundle.
+/// Reads the bundle that the source gives, runs its tenants, one behind the other, and of each its sessions, one behind the
+/// other; keeps their code and their trails in the book, and writes the report to the sink. `listed` says whether a list of
+/// turns is given, which isn't built yet. The status is 0 for that, 2 where the source failed, 3 where the bytes are no bundle, 4
+/// where the sink failed, 5 where memory was refused, and 6 where the source gives more than 67,108,864 bytes. With status 3 a
+/// line is written that tells the first fault and its place, or `bad bundle at turns: NotYet` where a list is given with a
+/// bundle.
 pub fn run_turns_text<S: Source, K: Sink>(
     alloc: Global,
     listed: bool,

@@ -1,3 +1,8 @@
-pub mod Asked
-pub mod Legality
+pub mod Frames
+pub mod Logs
+pub mod SoFar
+pub mod Machine
 pub mod Attempts
+pub mod Steps
+pub mod Refused
+pub mod Sessions

@@ -10,7 +10,6 @@ use Rattle.apex_rows.specs.declared.row.Row.{Row}
 use Rattle.apex_rows.specs.declared.row.Writes.{Writes}
 use Rattle.apex_schema.specs.declared.schema.Schema.{Schema}
 use Rattle.record_store.specs.Places.{answer_to}
-use Rattle.save_procedure.specs.Does.{IsRead}
 use Rattle.tenant_trails.specs.Runs as Trail
 use Rattle.stack_code.specs.Runs.{start}
 use Rattle.stack_code.specs.declared.image.Image.{Image}
@@ -26,11 +25,11 @@ told_of (Limit k l) n = n
 told_of (Refused f) n = 0
 
 module _ (schema : Schema) (ticket : Ticket) (image : Image) (block : ℕ) (store : List Row) where
-  -- each answer of a tape is the store's to what the machine asks on those before it, which are rows that others may see
+  -- each answer of a tape is the store's to what the machine asks on those before it
   abbrev pub Answered : List Answer → List Answer → Type 0
   Answered before [] = Unit {0}
   Answered before (a ∷ more) =
-      (q : Question) × IsRead q × ((n : ℕ) × Comes schema ticket image (start block) before n (Trail.Asks q)) × (a ≡ answer_to store q) × Answered (before ++ a ∷ []) more
+      (q : Question) × ((n : ℕ) × Comes schema ticket image (start block) before n (Trail.Asks q)) × (a ≡ answer_to store q) × Answered (before ++ a ∷ []) more
 
   -- from the start of the block the machine comes on the store's answers to this reply, with the number of its steps unless it is refused, and these
   -- writes

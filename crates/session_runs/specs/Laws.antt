@@ -1,5 +1,5 @@
 -- What is to be shown of requests that run blocks.
-use Rattle.std.specs.Prelude.{◌≡◌, ℕ, List, [], Some}
+use Rattle.std.specs.Prelude.{◌≡◌, ℕ, List, Some}
 use Rattle.apex_requests.specs.declared.reply.Reply.{Reply}
 use Rattle.apex_requests.specs.declared.request.Ticket.{Ticket}
 use Rattle.apex_rows.specs.declared.row.Row.{Row}
@@ -19,4 +19,4 @@ use Rattle.session_runs.specs.Blocks.{RunsTo}
 abbrev pub ImagesEvaluateBlocks : Type 0
 ImagesEvaluateBlocks =
     (schema : Schema) (program : Program) (ticket : Ticket) (image : Image) (n : ℕ) (block : List TypedStmt) (store : List Row) (reply : Reply) (writes : Writes) → Means program image → block_at program n ≡ Some block → RunsTo schema ticket image n store reply writes →
-    Evaluates store (block_run (record { schema = schema; program = program; ticket = ticket }) block) (plain reply) writes []
+    (grabs : List (List (List ℕ))) × Evaluates store (block_run (record { schema = schema; program = program; ticket = ticket }) block) (plain reply) writes grabs

@@ -2,3 +2,4 @@ pub mod Blocks
 pub mod Laws
 pub mod Sessions
 pub mod Replies
+pub mod Calls

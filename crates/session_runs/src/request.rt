@@ -1,15 +1,22 @@
 // One request.
 
-ghost use Rattle.std.specs.Prelude.{◌≡◌, [], IfOk};
-ghost use Rattle.record_store.specs.Heaps.{rows_in};
+ghost use Rattle.std.specs.Prelude.{◌≡◌, ◌+◌, OnOk};
+ghost use Rattle.apex_requests.specs.declared.reply.EventKind.TheVariants.{End};
+ghost use Rattle.apex_requests.specs.declared.request.Work.TheVariants as W;
 ghost use Rattle.request_states.specs.Refusals as refusals;
-ghost use Rattle.tenant_core.specs.Logs.{IsCurrent};
-ghost use Rattle.save_procedure.specs.Does.{IsSound, HasIds};
-ghost use Rattle.stack_code.specs.Checked.{IsChecked};
+ghost use Rattle.record_store.specs.Heaps.{rows_in};
+ghost use Rattle.row_locks.specs.Locks.{holder_of};
+ghost use Rattle.row_meaning.specs.Stores.{taken};
+ghost use Rattle.save_stages.specs.Does.{IsSound, HasIds};
 ghost use Rattle.stack_code.specs.Means.{block_in, is_there};
-ghost use Rattle.session_runs.specs.Sessions.{EndsBlock, EndsWork};
+ghost use Rattle.tenant_shards.specs.Shards as shards;
+ghost use Rattle.tenant_shards.specs.declared.change.Change.TheVariants.{Closes};
+ghost use Rattle.std.specs.Prelude.{false};
+ghost use Rattle.session_runs.specs.Calls as spec;
+ghost use Rattle.session_runs.specs.Calls.{Beside, StandsAt};
 
-use crate::{Attempt, run_image};
+use crate::calls::end;
+use crate::run::run_image;
 use apex_num::NoMemory;
 use apex_requests::{Ticket, Work};
 use apex_schema::Schema;
@@ -17,21 +24,7 @@ use fault_words::Fault;
 use request_states::{no_writes, not_yet, refusal};
 use stack_code::Image;
 use std::alloc::Global;
-use tenant_core::{Log, Shard};
-
-// A request that is refused.
-fn refused(alloc: Global, fault: Fault) -> Attempt
-    ensures reply { result.reply ≡ refusals.refusal fault }
-    ensures writes { result.writes ≡ refusals.no_writes }
-    ensures asked { result.log.asked ≡ [] }
-    ensures answers { result.log.answers ≡ [] }
-{
-    Attempt {
-        reply: refusal(alloc, fault),
-        writes: no_writes(alloc),
-        log: Log::new(alloc),
-    }
-}
+use tenant_shards::{Log, Shard};
 
 // Whether an image has the code of a block.
 fn has_block(image: &Image, block: usize) -> bool
@@ -43,6 +36,29 @@ fn has_block(image: &Image, block: usize) -> bool
     }
 }
 
+// A request that is refused before it asks anything.
+fn refuse(
+    alloc: Global,
+    fault: Fault,
+    shard: &mut Shard,
+    tenant: usize,
+    session: u32,
+) -> Result<(), NoMemory>
+    requires { shards.MayEnd shard.old tenant session spec.no_log (refusals.refusal fault) refusals.no_writes }
+    ensures ends { OnOk result (shards.Happens tenant session (End (refusals.refusal fault)) (Closes false) (taken refusals.no_writes (rows_in tenant shard.old.rows)) (shards.freed session (holder_of tenant shard.old.locks)) shard.old shard.new) }
+    ensures beside { Beside tenant session shard.old shard.new }
+{
+    let log = Log::new(alloc);
+    end(
+        shard,
+        tenant,
+        session,
+        &log,
+        refusal(alloc, fault),
+        no_writes(alloc),
+    )
+}
+
 // A request that runs a block, or that is refused since there is none.
 fn run_block(
     alloc: Global,
@@ -52,22 +68,21 @@ fn run_block(
     ticket: Ticket,
     shard: &mut Shard,
     tenant: usize,
-) -> Result<Attempt, NoMemory>
+) -> Result<(), NoMemory>
     requires sound { IsSound schema.now }
     requires ids { HasIds ticket }
-    requires checked { IsChecked image.now }
-    ensures ends { IfOk result (λ e. EndsBlock schema.now ticket image.now block (block_in image.now block) (rows_in tenant shard.old.rows) e.reply e.writes) }
-    ensures log { IfOk result (λ e. IsCurrent (rows_in tenant shard.old.rows) e.log) }
-    ensures same { shard.new ≡ shard.old }
+    requires on { spec.IsOn schema.now image.now ticket (W.Apex block) tenant spec.no_log shard.old }
+    ensures stands { OnOk result (StandsAt image.now tenant ticket.session (ticket.index + 1) shard.new) }
+    ensures beside { Beside tenant ticket.session shard.old shard.new }
 {
     if has_block(image, block) {
         run_image(alloc, image, block, schema, ticket, shard, tenant)
     } else {
-        Ok(refused(alloc, not_yet(alloc)?))
+        refuse(alloc, not_yet(alloc)?, shard, tenant, ticket.session)
     }
 }
 
-/// Runs a request to its end. Nothing of the shard changes.
+/// Runs a request that is open to its end.
 pub fn run_work(
     alloc: Global,
     schema: &Schema,
@@ -76,17 +91,16 @@ pub fn run_work(
     ticket: Ticket,
     shard: &mut Shard,
     tenant: usize,
-) -> Result<Attempt, NoMemory>
+) -> Result<(), NoMemory>
     requires sound { IsSound schema.now }
     requires ids { HasIds ticket }
-    requires checked { IsChecked image.now }
-    ensures ends { IfOk result (λ e. EndsWork schema.now ticket image.now work.now (rows_in tenant shard.old.rows) e.reply e.writes) }
-    ensures log { IfOk result (λ e. IsCurrent (rows_in tenant shard.old.rows) e.log) }
-    ensures same { shard.new ≡ shard.old }
+    requires on { spec.IsOn schema.now image.now ticket work.now tenant spec.no_log shard.old }
+    ensures stands { OnOk result (StandsAt image.now tenant ticket.session (ticket.index + 1) shard.new) }
+    ensures beside { Beside tenant ticket.session shard.old shard.new }
 {
     match work {
         Work::Apex(block) => run_block(alloc, schema, image, *block, ticket, shard, tenant),
-        Work::Save { .. } => Ok(refused(alloc, not_yet(alloc)?)),
-        Work::Refused(fault) => Ok(refused(alloc, fault.copy()?)),
+        Work::Save { .. } => refuse(alloc, not_yet(alloc)?, shard, tenant, ticket.session),
+        Work::Refused(fault) => refuse(alloc, fault.copy()?, shard, tenant, ticket.session),
     }
 }

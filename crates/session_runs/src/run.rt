@@ -1,78 +1,64 @@
 // An image on the rows of a tenant.
 
-ghost use Rattle.std.specs.Prelude.{◌≡◌, [], None, IfOk, OnOk};
-ghost use Rattle.record_store.specs.Heaps.{rows_in};
-ghost use Rattle.record_store.specs.Places.{answer_to};
-ghost use Rattle.save_procedure.specs.Does.{IsSound, HasIds};
-ghost use Rattle.tenant_core.specs.Logs.{AsksRows, IsCurrent};
-ghost use Rattle.stack_code.specs.Checked.{IsChecked};
-ghost use Rattle.session_runs.specs.Blocks.{IsAt, RunsTo, told_of};
+ghost use Rattle.std.specs.Prelude.{◌≡◌, ◌+◌, true, None, IfOk, OnOk};
+ghost use Rattle.apex_requests.specs.declared.request.Work.TheVariants.{Apex};
+ghost use Rattle.save_stages.specs.Does.{IsSound, HasIds};
+ghost use Rattle.stack_code.specs.Means.{block_in, is_there};
+ghost use Rattle.session_runs.specs.Calls as spec;
+ghost use Rattle.session_runs.specs.Calls.{Beside, StandsAt};
 
-use apex_list::Items;
+use crate::alone::told_reply;
+use crate::calls::{answered, end, logged};
 use apex_num::NoMemory;
-use apex_requests::{Outcome, Reply, Ticket};
-use apex_rows::{Answer, Question, Writes};
+use apex_requests::Ticket;
+use apex_rows::Answer;
 use apex_schema::Schema;
 use metered_vm::{Pause, Vm, resume, start};
 use stack_code::Image;
 use std::alloc::{AllocError, Global};
-use tenant_core::{Log, Shard};
+use tenant_shards::{Log, Shard};
 
-/// What an attempt of a request came to: its reply, what it writes, and what it asked on its way.
-#[derive(Drop)]
-pub struct Attempt {
-    pub reply: Reply,
-    pub writes: Writes,
-    pub log: Log,
-}
-
-// The number of steps that a reply tells: a refused one tells none.
-fn told(outcome: &Outcome, ops: u64) -> u64
-    ensures { result ≡ told_of outcome.now ops }
-{
-    match outcome {
-        Outcome::Ok | Outcome::Thrown(..) | Outcome::Limit(..) => ops,
-        Outcome::Refused(_) => 0,
-    }
-}
-
-// The reply of a request, with the number of steps that it tells.
-fn told_reply(reply: Reply) -> Reply
-    ensures { result ≡ record reply { ops = told_of reply.outcome reply.ops } }
-{
-    let mut reply = reply;
-    reply.ops = told(&reply.outcome, reply.ops);
-    reply
-}
-
-// The end of an attempt.
-fn end_of(reply: Reply, writes: Writes, log: Log) -> Attempt
-    ensures reply { result.reply ≡ record reply { ops = told_of reply.outcome reply.ops } }
-    ensures writes { result.writes ≡ writes }
-    ensures log { result.log ≡ log }
-{
-    let reply = told_reply(reply);
-    Attempt { reply, writes, log }
-}
-
-// What a tenant's rows answer, which the log tells from here on.
-fn answered(
+// Goes on with a request to its next question and the answer to it, or to its end.
+fn go_on(
+    alloc: Global,
+    image: &Image,
+    block: usize,
+    schema: &Schema,
+    ticket: Ticket,
+    vm: &mut Vm,
+    answer: Option<Answer>,
+    log: &mut Log,
     shard: &mut Shard,
     tenant: usize,
-    question: Question,
-    log: &mut Log,
-) -> Result<Answer, NoMemory>
-    requires asks { AsksRows question }
-    requires current { IsCurrent (rows_in tenant shard.old.rows) log.old }
-    ensures answer { IfOk result (λ answer. answer ≡ answer_to (rows_in tenant shard.old.rows) question) }
-    ensures current { OnOk result (IsCurrent (rows_in tenant shard.old.rows) log.new) }
-    ensures same { shard.new ≡ shard.old }
+) -> Result<Option<Answer>, NoMemory>
+    requires sound { IsSound schema.now }
+    requires ids { HasIds ticket }
+    requires at { spec.IsAt schema.now image.now ticket block tenant vm.old answer log.old shard.old }
+    ensures on { IfOk result (spec.GoesOn schema.now image.now ticket block tenant vm.new log.new shard.new) }
+    ensures beside { Beside tenant ticket.session shard.old shard.new }
 {
-    let answer = Answer::Rows(shard.read(tenant, &question)?);
-    let copy = answer.copy()?;
-    log.asked.push(question)?;
-    log.answers.push(copy)?;
-    Ok(answer)
+    match resume(alloc, image, schema, ticket, vm, answer)? {
+        Pause::End(reply, writes) => {
+            end(
+                shard,
+                tenant,
+                ticket.session,
+                log,
+                told_reply(reply),
+                writes,
+            )?;
+            Ok(None)
+        }
+        Pause::Need(question) => {
+            match answered(shard, tenant, ticket.session, log, &question)? {
+                Some(next) => {
+                    logged(log, question, &next)?;
+                    Ok(Some(next))
+                }
+                None => Ok(None),
+            }
+        }
+    }
 }
 
 // Goes on with a request from its start to its end on the rows of a tenant.
@@ -83,31 +69,31 @@ fn run_on(
     schema: &Schema,
     ticket: Ticket,
     vm: &mut Vm,
+    log: &mut Log,
     shard: &mut Shard,
     tenant: usize,
-) -> Result<Attempt, NoMemory>
+) -> Result<(), NoMemory>
     requires sound { IsSound schema.now }
     requires ids { HasIds ticket }
-    requires first { IsAt schema.now ticket image.now block (rows_in tenant shard.old.rows) vm.old None }
-    ensures runs { IfOk result (λ e. RunsTo schema.now ticket image.now block (rows_in tenant shard.old.rows) e.reply e.writes) }
-    ensures log { IfOk result (λ e. IsCurrent (rows_in tenant shard.old.rows) e.log) }
-    ensures same { shard.new ≡ shard.old }
+    requires first { spec.IsAt schema.now image.now ticket block tenant vm.old None log.old shard.old }
+    ensures stands { OnOk result (StandsAt image.now tenant ticket.session (ticket.index + 1) shard.new) }
+    ensures beside { Beside tenant ticket.session shard.old shard.new }
 {
-    let mut log = Log::new(alloc);
     let mut answer = None;
     'questions: for _ in 0..u64::MAX {
-        match resume(alloc, image, schema, ticket, vm, answer)? {
-            Pause::End(reply, writes) => return Ok(end_of(reply, writes, log)),
-            Pause::Need(question) => answer = Some(answered(shard, tenant, question, &mut log)?),
+        match go_on(
+            alloc, image, block, schema, ticket, vm, answer, log, shard, tenant,
+        )? {
+            Some(next) => answer = Some(next),
+            None => return Ok(()),
         }
     }
     // (no request asks that often)
     Err(AllocError)
 }
 
-/// Runs a block of a checked image to its end on the rows of a tenant, which answer what it asks. Nothing of the shard changes. The reply
-/// tells how many steps of the machine counted, or none where the request is refused; the log tells each question with its
-/// answer.
+/// Runs a block, of which the image has the code, to its end on the rows of a tenant, which answer what it asks. The reply
+/// tells how many steps of the machine counted, or none where the request is refused.
 pub fn run_image(
     alloc: Global,
     image: &Image,
@@ -116,67 +102,17 @@ pub fn run_image(
     ticket: Ticket,
     shard: &mut Shard,
     tenant: usize,
-) -> Result<Attempt, NoMemory>
+) -> Result<(), NoMemory>
     requires sound { IsSound schema.now }
     requires ids { HasIds ticket }
-    requires checked { IsChecked image.now }
-    ensures runs { IfOk result (λ e. RunsTo schema.now ticket image.now block (rows_in tenant shard.old.rows) e.reply e.writes) }
-    ensures log { IfOk result (λ e. IsCurrent (rows_in tenant shard.old.rows) e.log) }
-    ensures same { shard.new ≡ shard.old }
+    requires code { is_there (block_in image.now block) ≡ true }
+    requires on { spec.IsOn schema.now image.now ticket (Apex block) tenant spec.no_log shard.old }
+    ensures stands { OnOk result (StandsAt image.now tenant ticket.session (ticket.index + 1) shard.new) }
+    ensures beside { Beside tenant ticket.session shard.old shard.new }
 {
     let mut vm = start(alloc, block);
-    run_on(alloc, image, block, schema, ticket, &mut vm, shard, tenant)
-}
-
-// What no rows answer.
-fn answer_none(alloc: Global, question: &Question) -> Answer
-    ensures { result ≡ answer_to [] question.now }
-{
-    match question {
-        Question::Read { .. } => Answer::Rows(Items::new(alloc)),
-        Question::Grab { .. } => Answer::Granted,
-    }
-}
-
-// Goes on with a request from its start to its end where there are no rows.
-fn run_without(
-    alloc: Global,
-    image: &Image,
-    block: usize,
-    schema: &Schema,
-    ticket: Ticket,
-    vm: &mut Vm,
-) -> Result<(Reply, Writes), NoMemory>
-    requires sound { IsSound schema.now }
-    requires ids { HasIds ticket }
-    requires first { IsAt schema.now ticket image.now block [] vm.old None }
-    ensures { IfOk result (λ e. RunsTo schema.now ticket image.now block [] e.0 e.1) }
-{
-    let mut answer = None;
-    'questions: for _ in 0..u64::MAX {
-        match resume(alloc, image, schema, ticket, vm, answer)? {
-            Pause::End(reply, writes) => return Ok((told_reply(reply), writes)),
-            Pause::Need(question) => answer = Some(answer_none(alloc, &question)),
-        }
-    }
-    // (no request asks that often)
-    Err(AllocError)
-}
-
-/// Runs a block of a checked image to its end where there are no rows. The reply tells how many steps of the machine counted, or none where
-/// the request is refused.
-pub fn run_alone(
-    alloc: Global,
-    image: &Image,
-    block: usize,
-    schema: &Schema,
-    ticket: Ticket,
-) -> Result<(Reply, Writes), NoMemory>
-    requires sound { IsSound schema.now }
-    requires ids { HasIds ticket }
-    requires checked { IsChecked image.now }
-    ensures { IfOk result (λ e. RunsTo schema.now ticket image.now block [] e.0 e.1) }
-{
-    let mut vm = start(alloc, block);
-    run_without(alloc, image, block, schema, ticket, &mut vm)
+    let mut log = Log::new(alloc);
+    run_on(
+        alloc, image, block, schema, ticket, &mut vm, &mut log, shard, tenant,
+    )
 }

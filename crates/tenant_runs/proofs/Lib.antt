@@ -1,3 +1,4 @@
 mod Parts
 mod Prefixes
+mod Sessions
 mod Trails

@@ -1,8 +1,8 @@
--- The sessions of a part: their requests are as many as planned, and each is of a user.
+-- The sessions of a part: they and their requests are as many as planned, and each request is of a user.
 use Rattle.std.proofs.Common.{arith, ◌≡◌, refl, ap, sym, ◌∙◌, subst, ℕ, suc, ◌+◌, ◌<◌, ◌≤◌, Bool, true, false, List, [], ◌∷◌, length, Option, None, Some}
 use Rattle.std.specs.Prelude.{cond, bytes_eq, All}
 use Rattle.std.proofs.lemmas.List.{length-map}
-use Rattle.std.proofs.lemmas.List.Elements.{All-head}
+use Rattle.std.proofs.lemmas.List.Elements.{All-cons, All-head, All-nil, All-tail}
 use Rattle.apex_text.specs.Fold.{folded}
 use Rattle.schema_names.specs.Names.{one_more, place_of}
 use Rattle.schema_plans.specs.Schemas.{number_or}
@@ -22,7 +22,7 @@ use Rattle.tenant_requests.specs.Requests.{AreOpen, AreOpenSessions, AreClosed, 
 use Rattle.tenant_sessions.specs.Users.{AreUsers, names, user_of}
 use Rattle.type_names.specs.declared.fault.TreeFault.{TreeFault}
 use Rattle.tenant_runs.specs.Laws.{PartsAreSound}
-use Rattle.tenant_runs.specs.Tenants.{AreFew}
+use Rattle.tenant_runs.specs.Tenants.{HasNumbers, HaveNumbers}
 use Rattle.tenant_runs.proofs.Prefixes.{sound}
 
 cons_nil : {A : Type 0} {x : A} {xs : List A} → x ∷ xs ≡ [] → ⊥
@@ -53,6 +53,13 @@ user_below users e es u us are =
     let same = length-map users (λ (p : UserPlan). folded p.name) in
     omega (arith, below, same)
 
+abbrev rest_of : List (Option ℕ) → List (Option ℕ)
+rest_of [] = []
+rest_of (o ∷ os) = os
+
+users_behind : (users : List UserPlan) (e : SessionEntry) (es : List SessionEntry) (u : ℕ) (us : List ℕ) → AreUsers users (e ∷ es) (u ∷ us) → AreUsers users es us
+users_behind users e es u us are = ap rest_of are
+
 -- ---- its requests
 
 abbrev AreOf : ℕ → List OpenRequest → Type 0
@@ -79,26 +86,32 @@ closed_length faults [] qs h = ap length h
 closed_length faults (r ∷ rs) [] h = absurd h
 closed_length faults (r ∷ rs) (q ∷ qs) h = ap suc (closed_length faults rs qs h.1)
 
--- one session at most
-few : (schema : Schema) (plans : List UserPlan) (users : List ℕ) (es : List SessionEntry) (before : List Tree) (ss : List OpenSession) (behind : List Tree) (faults : List (Option TreeFault)) (ts : List Session)
-    → length plans ≤ 1000000 → AreUsers plans es users → AreOpenSessions schema users es before ss behind → AreClosedSessions faults ss ts → All HasFewRequests es → length es ≤ 1 → AreFew ts
-few schema plans users [] before [] behind faults ts m a o c h e = subst AreFew (sym c) tt
-few schema plans users [] before (s ∷ ss) behind faults ts m a o c h e = absurd (cons_nil o.0)
-few schema plans [] (x ∷ xs) before ss behind faults ts m a o c h e = absurd o
-few schema plans (u ∷ us) (x ∷ xs) before [] behind faults ts m a o c h e = absurd o
-few schema plans (u ∷ us) (x ∷ xs) before (s ∷ ss) behind faults [] m a o c h e = absurd c
-few schema plans (u ∷ us) (x ∷ []) before (s ∷ []) behind faults (t ∷ ts) m a o c h e =
-    let below = user_below plans x [] u us a in
+each : (schema : Schema) (plans : List UserPlan) (users : List ℕ) (es : List SessionEntry) (before : List Tree) (ss : List OpenSession) (behind : List Tree) (faults : List (Option TreeFault)) (ts : List Session)
+    → length plans ≤ 1000000 → AreUsers plans es users → AreOpenSessions schema users es before ss behind → AreClosedSessions faults ss ts → All HasFewRequests es → All HasNumbers ts × (length ts ≡ length es)
+each schema plans users [] before [] behind faults ts m a o c h = (subst (All HasNumbers) (sym c) (All-nil HasNumbers), ap length c)
+each schema plans users [] before (s ∷ ss) behind faults ts m a o c h = absurd (cons_nil o.0)
+each schema plans [] (x ∷ xs) before ss behind faults ts m a o c h = absurd o
+each schema plans (u ∷ us) (x ∷ xs) before [] behind faults ts m a o c h = absurd o
+each schema plans (u ∷ us) (x ∷ xs) before (s ∷ ss) behind faults [] m a o c h = absurd c
+each schema plans (u ∷ us) (x ∷ xs) before (s ∷ ss) behind faults (t ∷ ts) m a o c h =
+    let below = user_below plans x xs u us a in
     let many : most ≡ 14776336 = refl in
     let lt : suc u < most = omega (arith, below, many, m) in
     let count : length t.requests ≡ length x.requests = closed_length faults s.requests t.requests c.0 ∙ open_length schema u x.requests before s.requests o.0 o.1 in
-    let least = All-head HasFewRequests x [] h in
-    subst (λ more. AreFew (t ∷ more)) (sym c.1) (omega (arith, count, least), closed_users u lt faults s.requests t.requests c.0 (open_users schema u x.requests before s.requests o.0 o.1))
-few schema plans (u ∷ us) (x ∷ []) before (s ∷ r ∷ ss) behind faults (t ∷ ts) m a o c h e = absurd (cons_nil o.2.0)
-few schema plans (u ∷ us) (x ∷ y ∷ xs) before (s ∷ ss) behind faults (t ∷ ts) m a o c h e = absurd (omega (arith, e))
+    let least = All-head HasFewRequests x xs h in
+    let numbers : HasNumbers t = (omega (arith, count, least), closed_users u lt faults s.requests t.requests c.0 (open_users schema u x.requests before s.requests o.0 o.1)) in
+    let more = each schema plans us xs o.0 ss behind faults ts m (users_behind plans x xs u us a) o.2 c.1 (All-tail HasFewRequests x xs h) in
+    (All-cons HasNumbers t ts numbers more.0, ap suc more.1)
+
+numbered : (ts : List Session) (es : List SessionEntry) → length es ≤ 10000 → All HasNumbers ts × (length ts ≡ length es) → HaveNumbers ts
+numbered ts es e h =
+    let many : most ≡ 14776336 = refl in
+    let same = h.1 in
+    record { few = omega (arith, e, many, same); each = h.0 }
 
 pub parts_are_sound : PartsAreSound
-parts_are_sound plan part p bounds one = (
+parts_are_sound plan part p bounds = (
   sound plan.schema part.schema p.deployed bounds.users,
-  few part.schema plan.schema.users p.users plan.sessions [] p.rest.opened p.rest.blocks _ part.sessions bounds.users p.are_users p.rest.are_open p.rest.are_closed bounds.requests one,
+  numbered part.sessions plan.sessions bounds.sessions
+      (each part.schema plan.schema.users p.users plan.sessions [] p.rest.opened p.rest.blocks _ part.sessions bounds.users p.are_users p.rest.are_open p.rest.are_closed bounds.requests),
 )

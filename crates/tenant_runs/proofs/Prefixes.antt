@@ -19,7 +19,7 @@ use Rattle.schema_plans.specs.Plans.{or_later, first_of, when, standing, is_take
 use Rattle.schema_plans.specs.Schemas.{numbered, object_of, row_share, schema_of, user_of}
 use Rattle.schema_plans.specs.Validity.{with_each}
 use Rattle.record_ids.specs.Ids.{IsPrefix, most}
-use Rattle.save_procedure.specs.Does.{AllPrefixed, IsSound}
+use Rattle.save_stages.specs.Does.{AllPrefixed, IsSound}
 use Rattle.tenant_schema.specs.Deployed.{IsDeployed}
 
 -- ---- letters and digits

@@ -1,33 +1,29 @@
--- What the only session of a tenant has to run.
-use Rattle.std.specs.Prelude.{◌≡◌, ◌≤◌, List, [], ◌∷◌, length, Option, None, Some}
-use Rattle.apex_requests.specs.declared.reply.Event.{Event}
-use Rattle.apex_requests.specs.declared.request.Request.{Request}
-use Rattle.apex_rows.specs.declared.row.Row.{Row}
+-- How far the sessions of a tenant are, where one runs behind the other.
+use Rattle.std.specs.Prelude.{◌≡◌, ℕ, zero, suc, List, [], ◌∷◌, length, None, Some}
 use Rattle.apex_schema.specs.declared.schema.Schema.{Schema}
-use Rattle.session_runs.specs.Replies.{IsRunOf}
-use Rattle.session_runs.specs.Sessions.{HaveUsers, IsNew, tenant_of}
-use Rattle.tenant_trails.specs.States.{Told}
-use Rattle.tenant_parts.specs.declared.session.Session.{Session}
-use Rattle.tenant_trails.specs.Legal.{Closed}
+use Rattle.legal_trails.specs.Legal.{Session as State}
+use Rattle.row_locks.specs.Locks.{holder_of}
+use Rattle.session_runs.specs.Calls.{IsRunSoFar, closed_session}
+use Rattle.stack_code.specs.Means.{Means}
 use Rattle.stack_code.specs.declared.image.Image.{Image}
-use Rattle.typed_program.specs.declared.program.Program.{Program}
+use Rattle.tenant_parts.specs.declared.part.TenantPart.{TenantPart}
+use Rattle.tenant_parts.specs.declared.session.Session.{Session}
+use Rattle.tenant_shards.specs.Shards.{Shared}
+use Rattle.tenant_shards.specs.Tenants.{part_at, sessions_at}
 
--- the requests of the first session, if there is one
-abbrev pub first_requests : List Session → Option (List Request)
-first_requests [] = None
-first_requests (s ∷ ss) = Some s.requests
+-- the first so many sessions have closed all their requests, and the others none
+abbrev pub ran_first : ℕ → List Session → List State
+ran_first n [] = []
+ran_first zero (s ∷ ss) = closed_session 0 ∷ ran_first zero ss
+ran_first (suc n) (s ∷ ss) = closed_session (length s.requests) ∷ ran_first n ss
 
-abbrev pub IsFew : Option (List Request) → Type 0
-IsFew None = Unit {0}
-IsFew (Some requests) = (length requests ≤ 1000000) × HaveUsers requests
-
--- nothing has happened
-abbrev pub IsNewFor : Option (List Request) → Told → Type 0
-IsNewFor None told = told.events ≡ []
-IsNewFor (Some requests) told = IsNew told
-
--- the trail is legal and closes each request, and each reply is the machine's
-abbrev pub IsRunFirst : Schema → Program → Image → List Row → Option (List Request) → List Event → Type 0
-IsRunFirst schema program image seed None trail = trail ≡ []
-IsRunFirst schema program image seed (Some requests) trail =
-    Closed (tenant_of schema program seed (requests ∷ [])) trail × IsRunOf schema image (requests ∷ []) (tenant_of schema program seed (requests ∷ [])) trail
+-- so far are the sessions of tenant 0, which has this schema and whose program the image means; no row is held
+pub record HaveRun (schema : Schema) (image : Image) (sessions : List Session) (n : ℕ) (shard : Shared) : Type 0 where
+  pub part : TenantPart
+  pub is_part : part_at 0 shard.tenants ≡ Some part
+  pub schema_is : part.schema ≡ schema
+  pub sessions_are : part.sessions ≡ sessions
+  pub means : Means part.program image
+  pub ran : sessions_at 0 shard.tenants ≡ ran_first n sessions
+  pub free : (id : List ℕ) → holder_of 0 shard.locks id ≡ None
+  pub so_far : IsRunSoFar image part 0 shard

@@ -1,4 +1,4 @@
-//! A tenant of a bundle as it runs: its blocks compiled, its seed stored, the requests of its session made.
+//! A tenant of a bundle as it runs: its blocks compiled, its seed stored, the requests of its sessions made.
 #![tactic(auto)]
 
 mod laws;

@@ -1,7 +1,7 @@
-mod Logs
-mod Asked
-mod Tenants
-mod Holders
-mod Legality
-mod Coming
-mod Left
+pub mod Logs
+pub mod Asked
+pub mod Tenants
+pub mod Holders
+pub mod Legality
+pub mod Coming
+pub mod Left

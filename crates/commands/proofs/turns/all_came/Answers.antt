@@ -1,4 +1,3 @@
-use Rattle.std.proofs.Common.{eqb, length}
 use Rattle.commands.proofs.Tenants.{one_more}
 use Rattle.commands.proofs.turns.all_came.Goals as goal
 
@@ -8,4 +7,4 @@ tenants-preserved c =
     let fault = c.in_ok-push.ensures in
     let images = c.in_ok-push-2.ensures in
     let trail = c.in_ok-push-3.ensures in
-    one_more (eqb (length c.args.tenants.now) 1) c.args.tenants.now c.tenants.t c.index-tenants-t.result c.tenants.faults _ c.tenants.all_images _ c.tenants.trails _ came.fault came.image came.trail c.tenants-test.true c.index-tenants-t.is c.tenants.invariant c.in_ok-fault.ensures fault.ok images.ok trail.ok
+    one_more c.args.tenants.now c.tenants.t c.index-tenants-t.result c.tenants.faults _ c.tenants.all_images _ c.tenants.trails _ came.fault came.image came.trail c.tenants-test.true c.index-tenants-t.is c.tenants.invariant c.in_ok-fault.ensures fault.ok images.ok trail.ok

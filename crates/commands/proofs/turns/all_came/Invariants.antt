@@ -1,6 +1,6 @@
-use Rattle.std.proofs.Common.{eqb, length, take}
+use Rattle.std.proofs.Common.{take}
 use Rattle.commands.specs.Turns.{AllCome}
 use Rattle.commands.proofs.turns.all_came.Given as goal
 
 abbrev pub invariant-tenants : goal.invariant-tenants
-invariant-tenants l = AllCome (eqb (length l.tenants) 1) (take l.t l.tenants) l.faults l.all_images l.trails
+invariant-tenants l = AllCome (take l.t l.tenants) l.faults l.all_images l.trails

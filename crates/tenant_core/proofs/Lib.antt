@@ -1,4 +1,0 @@
-mod Ends
-mod Logs
-mod Opens
-mod Tenants

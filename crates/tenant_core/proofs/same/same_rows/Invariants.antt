@@ -1,5 +1,0 @@
-use Rattle.std.proofs.Common.{◌≡◌, take}
-use Rattle.tenant_core.proofs.same.same_rows.Given as goal
-
-abbrev pub invariant-rows : goal.invariant-rows
-invariant-rows l = take l.k l.one ≡ take l.k l.other

@@ -1,5 +1,0 @@
-use Rattle.tenant_core.proofs.Opens.{Stands}
-use Rattle.tenant_core.proofs.shard.Shard.open.Given as goal
-
-abbrev pub invariant-parts : goal.invariant-parts
-invariant-parts l = (goal.iterator-parts).can_next l.tenant-iterator × (goal.iterator-parts).is_finite l.tenant-iterator × Stands l.fn.parts.items l.tenant-iterator.rest.items l.shard
