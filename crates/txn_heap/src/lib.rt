@@ -13,4 +13,4 @@ pub use entries::Entries;
 pub use heap::Heap;
 pub use keys::{Keys, copy_cells};
 pub use statics::Statics;
-pub use thing::{Exception, Instance, Record, Ref, Thing, Value};
+pub use thing::{Exception, Instance, Record, Ref, Relation, Selected, Thing, Under, Value};

@@ -4,7 +4,7 @@ ghost use Rattle.std.specs.Prelude.{◌≡◌, IfOk};
 
 use crate::entries::Entries;
 use crate::keys::Keys;
-use apex_list::Items;
+use apex_list::{Boxed, Items};
 use apex_num::{Cell, Copied, NoMemory};
 use builtin_table::ExceptionClass;
 
@@ -23,11 +23,35 @@ pub enum Value {
     Object(Ref),
 }
 
-/// A record in memory: its object, and for each field the cell that it knows.
+/// What a relation of a record leads to: the field that is followed, and the record there, or null.
+#[derive(Drop)]
+pub struct Relation {
+    pub field: usize,
+    pub value: Value,
+}
+
+/// The records under a record that a subquery gave: their object, their field that names the record, and the list of them.
+#[derive(Drop)]
+pub struct Under {
+    pub object: usize,
+    pub field: usize,
+    pub list: Value,
+}
+
+/// What a query gave with a record beside its cells: relations, each once, and records under it.
+#[derive(Drop)]
+pub struct Selected {
+    pub parents: Items<Relation>,
+    pub children: Items<Under>,
+}
+
+/// A record in memory: its object, for each field the cell that it knows, and what a query gave with it; none where it isn't one
+/// that a query gave.
 #[derive(Drop)]
 pub struct Record {
     pub object: usize,
     pub cells: Items<Option<Cell>>,
+    pub selected: Option<Boxed<Selected>>,
 }
 
 /// An instance of a declared class. Its fields are those of the farthest ancestor first, a place for each one that a class

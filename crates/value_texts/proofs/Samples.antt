@@ -34,7 +34,7 @@ word = Plain (C.Text (codes "a"))
 -- thing 7 is a list that has itself
 abbrev heap : List Thing
 heap =
-    T.Record (record { object = 0; cells = None ∷ Some (C.Text (codes "b")) ∷ Some (C.Bool true) ∷ [] })
+    T.Record (record { object = 0; cells = None ∷ Some (C.Text (codes "b")) ∷ Some (C.Bool true) ∷ []; selected = None })
     ∷ T.List (Plain C.Null ∷ word ∷ Object (record { place = 0 }) ∷ []) ∷ T.Set (C.Text (codes "x") ∷ C.Text (codes "y") ∷ [])
     ∷ T.Map ((C.Text (codes "k"), Object (record { place = 1 })) ∷ (C.Text (codes "l"), word) ∷ []) ∷ T.Instance (record { class = 1; message = C.Null; fields = [] })
     ∷ T.Exception (record { class = Class.Math; message = C.Text (codes "m") }) ∷ T.List [] ∷ T.List (Object (record { place = 7 }) ∷ []) ∷ []

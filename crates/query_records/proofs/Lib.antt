@@ -1,0 +1,5 @@
+pub mod Followed
+pub mod Overs
+pub mod There
+pub mod Ids
+mod Samples

@@ -1,0 +1,4 @@
+pub mod Advances
+pub mod Doings
+pub mod Charging
+pub mod Goings
