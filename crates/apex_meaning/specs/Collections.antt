@@ -1,5 +1,5 @@
 -- Lists, sets, maps and exceptions in code (docs/language.md, "Collections", "Exceptions").
-use Rattle.std.specs.Prelude.{ℕ, ◌+◌, ◌*◌, Bool, true, false, List, [], ◌∷◌, length, Option, None, Some}
+use Rattle.std.specs.Prelude.{ℕ, ◌+◌, ◌*◌, Bool, true, false, List, [], ◌∷◌, length, map, slice_get, Option, None, Some}
 use Rattle.apex_num.specs.declared.cell.Cell.{Cell}
 use Rattle.apex_num.specs.declared.cell.Cell.TheVariants as C
 use Rattle.apex_num.specs.declared.kind.LimitKind.TheVariants.{Alloc}
@@ -20,6 +20,18 @@ use Rattle.txn_heap.specs.declared.thing.Value.TheVariants.{Plain, Object}
 use Rattle.typed_program.specs.declared.expr.CollectionKind.{CollectionKind}
 use Rattle.typed_program.specs.declared.expr.CollectionKind.TheVariants as Kind
 use Rattle.apex_meaning.specs.Meanings.{Run}
+
+-- ---- items
+
+-- the items of a list or a set; a null one throws
+abbrev pub items_of_thing : Option Thing → Option (List Value)
+items_of_thing (Some (T.List vs)) = Some vs
+items_of_thing (Some (T.Set cs)) = Some (map Plain cs)
+items_of_thing _ = None
+
+abbrev pub items_of : Value → List Thing → Option (List Value)
+items_of (Plain c) heap = None
+items_of (Object r) heap = items_of_thing (slice_get heap r.place)
 
 -- ---- methods
 

@@ -5,6 +5,8 @@ pub mod Preparing
 pub mod Operations
 pub mod Collections
 pub mod Builtins
+pub mod Records
+pub mod Queries
 pub mod Places
 pub mod Expressions
 pub mod Statements

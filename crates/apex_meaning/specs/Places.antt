@@ -6,6 +6,7 @@ use Rattle.builtin_table.specs.declared.method.Builtin.TheVariants as B
 use Rattle.builtin_table.specs.declared.method.ListMethod.TheVariants as L
 use Rattle.platform_errors.specs.declared.thrown.Thrown.TheVariants.{NullObject}
 use Rattle.save_meaning.specs.Results.{Gives, bind}
+use Rattle.request_states.specs.Runs.{Setting}
 use Rattle.request_states.specs.States.{State, Res, charge, set_local, throws, with_heap}
 use Rattle.request_states.specs.Values.{null}
 use Rattle.txn_heap.specs.declared.thing.Thing.{Thing}
@@ -19,7 +20,6 @@ use Rattle.txn_heap.specs.declared.change.Change.TheVariants as Now
 use Rattle.typed_program.specs.declared.expr.Assignment.{Assignment}
 use Rattle.typed_program.specs.declared.expr.Number.{Number}
 use Rattle.typed_program.specs.declared.expr.StepKind.{StepKind}
-use Rattle.typed_program.specs.declared.program.Program.{Program}
 use Rattle.value_operators.specs.Operators.{converted, stepped}
 use Rattle.apex_meaning.specs.Builtins.{cell_in}
 use Rattle.apex_meaning.specs.Classes.{field_place}
@@ -27,6 +27,7 @@ use Rattle.apex_meaning.specs.Collections.{on_collection}
 use Rattle.apex_meaning.specs.Meanings.{Again, Do, Run, Behind, calc}
 use Rattle.apex_meaning.specs.Operations.{apply}
 use Rattle.apex_meaning.specs.Preparing.{prepared, with_statics}
+use Rattle.apex_meaning.specs.Records.{cell_in as record_cell}
 
 -- a variable once its parts were evaluated
 pub data Target : Type 0 where
@@ -59,24 +60,6 @@ set_field place (Object r) v st = set_in_thing place v r.place (slice_get st.wor
 
 -- ---- cells of records
 
--- a cell that the record doesn't know is null
-abbrev pub cell_or_null : Option Cell → Value
-cell_or_null None = null
-cell_or_null (Some c) = Plain c
-
-abbrev pub cell_of_thing : ℕ → Option Thing → Run
-cell_of_thing field (Some (T.Record r)) st = Gives (cell_or_null (slice_index_or r.cells field None)) st
-cell_of_thing field _ st = throws NullObject st
-
--- a null in front of a path: where the path goes on with it, it is what is found
-abbrev pub null_in_front : Bool → Run
-null_in_front true st = Gives null st
-null_in_front false st = throws NullObject st
-
-abbrev pub cell_at : ℕ → Bool → Value → Run
-cell_at field goes_on (Plain c) st = null_in_front goes_on st
-cell_at field goes_on (Object r) st = cell_of_thing field (slice_get st.world.heap r.place) st
-
 -- a cell costs 32 units where the record didn't know it before
 abbrev pub setting_units : Option Cell → ℕ
 setting_units None = 32
@@ -97,34 +80,34 @@ set_cell field (Object r) v st = set_cell_in_thing field v r.place (slice_get st
 
 -- ---- all variables
 
-module _ (program : Program) where
+module _ (setting : Setting) where
   abbrev pub load : Target → Run
   load (LocalAt x) st = Gives (slice_index_or st.here.locals x null) st
   load (StaticAt c n) st = Gives (or_null (static_at c n st.world.statics)) st
-  load (FieldAt v c n) st = field_in (field_place program c n) v st
-  load (CellAt v object field) st = cell_at field false v st
+  load (FieldAt v c n) st = field_in (field_place setting.program c n) v st
+  load (CellAt v object field) st = calc (record_cell setting.schema field false v st.world.heap) st
   load (ItemAt list at) st = on_collection (B.List L.Get) list (at ∷ []) st
 
   abbrev pub store : Target → Value → Do
   store (LocalAt x) v st = Gives tt (set_local x v st)
   store (StaticAt c n) v st = Gives tt (with_statics (with_static c n v st.world.statics) st)
-  store (FieldAt o c n) v st = set_field (field_place program c n) o v st
+  store (FieldAt o c n) v st = set_field (field_place setting.program c n) o v st
   store (CellAt o object field) v st = set_cell field o v st
   store (ItemAt list at) v st = bind (on_collection (B.List L.Set) list (at ∷ v ∷ []) st) (λ u s. Gives tt s)
 
-module _ (program : Program) (again : Again) where
+module _ (setting : Setting) (again : Again) where
   -- the class of a static is prepared first
   abbrev pub ready : Target → Do
-  ready (StaticAt c n) st = prepared program again c st
+  ready (StaticAt c n) st = prepared setting.program again c st
   ready _ st = Gives tt st
 
   -- the value of a variable
   abbrev pub got : Target → Run
-  got t st = bind (ready t st) (λ u s. load program t s)
+  got t st = bind (ready t st) (λ u s. load setting t s)
 
   -- the parts of the variable, the value, the store; the value is that of the whole
   abbrev pub assigned : Run → Target → Run
-  assigned value t st = bind (value st) (λ v s. bind (ready t s) (λ u s1. bind (store program t v s1) (λ u1 s2. Gives v s2)))
+  assigned value t st = bind (value st) (λ v s. bind (ready t s) (λ u s1. bind (store setting t v s1) (λ u1 s2. Gives v s2)))
 
   -- the variable's value, the other one, the operator, the store
   abbrev pub assigned_with : Assignment → Run → Target → Run
@@ -133,11 +116,11 @@ module _ (program : Program) (again : Again) where
       bind (value s) (λ v s1.
       bind (apply how.left how.op how.right old v s1) (λ w s2.
       bind (calc (converted how.back w) s2) (λ x s3.
-      bind (store program t x s3) (λ u s4. Gives x s4)))))
+      bind (store setting t x s3) (λ u s4. Gives x s4)))))
 
   -- `++` and `--`: the new value where they stand before, and the old one where they stand behind
   abbrev pub changed : StepKind → Number → Target → Run
   changed kind n t st =
       bind (got t st) (λ old s.
       bind (calc (stepped kind.up n old) s) (λ new s1.
-      bind (store program t new s1) (λ u s2. Gives (cond kind.before new old) s2)))
+      bind (store setting t new s1) (λ u s2. Gives (cond kind.before new old) s2)))

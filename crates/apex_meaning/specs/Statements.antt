@@ -1,5 +1,5 @@
 -- What statements do (docs/language.md, "What code does").
-use Rattle.std.specs.Prelude.{ℕ, Bool, true, false, cond, List, [], ◌∷◌, map, slice_get, Option, None, Some}
+use Rattle.std.specs.Prelude.{ℕ, Bool, true, false, cond, List, [], ◌∷◌, map, Option, None, Some}
 use Rattle.activations.specs.declared.abrupt.Abrupt.TheVariants.{Returns, Breaks, Continues}
 use Rattle.apex_num.specs.declared.cell.Cell.{Cell}
 use Rattle.apex_num.specs.declared.kind.LimitKind.TheVariants.{Steps}
@@ -10,10 +10,7 @@ use Rattle.request_states.specs.States.{State, Res, charge, set_local, throws}
 use Rattle.request_states.specs.Statements.{op_of, records_of, save_these}
 use Rattle.request_states.specs.Values.{null}
 use Rattle.static_types.specs.declared.kind.ValueType.{ValueType}
-use Rattle.txn_heap.specs.declared.thing.Thing.{Thing}
-use Rattle.txn_heap.specs.declared.thing.Thing.TheVariants as T
 use Rattle.txn_heap.specs.declared.thing.Value.{Value}
-use Rattle.txn_heap.specs.declared.thing.Value.TheVariants.{Plain, Object}
 use Rattle.typed_program.specs.declared.expr.Conversion.{Conversion}
 use Rattle.typed_program.specs.declared.expr.TypedExpr.{TypedExpr}
 use Rattle.typed_program.specs.declared.stmt.TypedLocal.{TypedLocal}
@@ -23,21 +20,12 @@ use Rattle.typed_program.specs.declared.stmt.TypedStmt.{TypedStmt}
 use Rattle.typed_program.specs.declared.stmt.TypedStmt.TheOpen.{TypedStmt-F, TypedCatch-F}
 use Rattle.typed_program.specs.declared.stmt.TypedStmt.TheFolds.{fold-TypedStmt}
 use Rattle.value_operators.specs.Operators.{converted}
+use Rattle.apex_meaning.specs.Collections.{items_of}
 use Rattle.apex_meaning.specs.Exceptions.{Clause, catching, throw}
 use Rattle.apex_meaning.specs.Expressions.{value_of}
 use Rattle.apex_meaning.specs.Meanings.{Again, Do, Run, Test, all_do, calc, dropped, finally, looping, test, turn, truth_of}
 
 -- ---- loops over collections
-
--- the items of a list or a set; a null one throws
-abbrev pub items_of_thing : Option Thing → Option (List Value)
-items_of_thing (Some (T.List vs)) = Some vs
-items_of_thing (Some (T.Set cs)) = Some (map Plain cs)
-items_of_thing _ = None
-
-abbrev pub items_of : Value → List Thing → Option (List Value)
-items_of (Plain c) heap = None
-items_of (Object r) heap = items_of_thing (slice_get heap r.place)
 
 -- each item in turn, as they were at the start; each test costs a step
 abbrev pub each : ℕ → Conversion → Do → List Value → Do

@@ -3,6 +3,7 @@ pub mod Worlds
 pub mod Paid
 pub mod Phases
 pub mod Saves
+pub mod Queries
 pub mod Things
 pub mod Classes
 pub mod Places

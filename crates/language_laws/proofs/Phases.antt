@@ -43,7 +43,7 @@ module _ (program : Program) (n : ℕ) where
   pub paid_ask : {E : Type 0} (q : Question) → Paid program {E = E} n (ask keeps q)
   paid_ask q = record { at = λ st h lt. answer_comes q st st.world.txn.tape h }
 
-  paid_inquire : {E A : Type 0} (i : Inquiry A) → Paid program {E = E} n (inquire keeps i)
+  pub paid_inquire : {E A : Type 0} (i : Inquiry A) → Paid program {E = E} n (inquire keeps i)
   paid_inquire (Found a) = paid_gives program n (λ s. a)
   paid_inquire (Asked q next) = paid_bind program n (ask keeps q) (λ answer s1. inquire keeps (next answer) s1) (paid_ask q) (λ answer. paid_inquire (next answer))
 

@@ -21,16 +21,17 @@ use Rattle.typed_program.specs.declared.expr.Constant.{Constant}
 use Rattle.typed_program.specs.declared.expr.Number.{Number}
 use Rattle.typed_program.specs.declared.expr.StepKind.{StepKind}
 use Rattle.typed_program.specs.declared.program.Program.{Program}
-use Rattle.value_operators.specs.Operators.{converted, stepped}
+use Rattle.value_operators.specs.Operators.{Calc, converted, stepped}
 use Rattle.value_texts.specs.Texts.{text_of}
 use Rattle.apex_meaning.specs.Classes.{field_place, target}
 use Rattle.apex_meaning.specs.Exceptions as X
 use Rattle.apex_meaning.specs.Expressions as E
-use Rattle.apex_meaning.specs.Meanings.{Again, Method, Run}
+use Rattle.apex_meaning.specs.Meanings.{Again, Method, Run, calc}
 use Rattle.apex_meaning.specs.Places as Pl
 use Rattle.apex_meaning.specs.Places.{Target, LocalAt, StaticAt, FieldAt, CellAt, ItemAt}
 use Rattle.apex_meaning.specs.Preparing.{with_statics}
 use Rattle.apex_meaning.specs.Preparing as Prep
+use Rattle.apex_meaning.specs.Records.{cell_in as record_cell}
 use Rattle.language_laws.proofs.Paid.{Paid, paid_gives, paid_puts, paid_bind, freely, paid_charge, paid_throws, paid_unbuilt, paid_calc}
 use Rattle.language_laws.proofs.Prepared.{stay_written}
 use Rattle.language_laws.proofs.Worlds.{later_same, later_kept, later_line, later_statics}
@@ -58,18 +59,6 @@ module _ (program : Program) (n : ℕ) where
 
   -- ---- cells of records
 
-  cell_of_thing : (field : ℕ) (o : Option Thing) → Paid program n (Pl.cell_of_thing field o)
-  cell_of_thing field (Some (T.Record r)) = paid_gives program n (λ s. Pl.cell_or_null (slice_index_or r.cells field None))
-  cell_of_thing field o = paid_throws program n NullObject
-
-  null_in_front : (goes_on : Bool) → Paid program n (Pl.null_in_front goes_on)
-  null_in_front true = paid_gives program n (λ s. null)
-  null_in_front false = paid_throws program n NullObject
-
-  pub paid_cell_at : (field : ℕ) (goes_on : Bool) (v : Value) → Paid program n (Pl.cell_at field goes_on v)
-  paid_cell_at field goes_on (Plain c) = null_in_front goes_on
-  paid_cell_at field goes_on (Object r) = record { at = λ st h lt. (cell_of_thing field (slice_get st.world.heap r.place)).at st h lt }
-
   set_cell_in_thing : (field : ℕ) (v : Value) (at : ℕ) (o : Option Thing) → Paid program n (Pl.set_cell_in_thing field v at o)
   set_cell_in_thing field v at (Some (T.Record r)) =
       paid_bind program n (charge Alloc (Pl.setting_units (slice_index_or r.cells field None))) _ (paid_charge program n Alloc (Pl.setting_units (slice_index_or r.cells field None)) (freely program))
@@ -80,21 +69,9 @@ module _ (program : Program) (n : ℕ) where
   paid_set_cell field (Plain c) v = paid_throws program n NullObject
   paid_set_cell field (Object r) v = record { at = λ st h lt. (set_cell_in_thing field v r.place (slice_get st.world.heap r.place)).at st h lt }
 
-  -- ---- all variables
-
-  pub paid_load : (t : Target) → Paid program n (Pl.load program t)
-  paid_load (LocalAt x) = paid_gives program n (λ s. slice_index_or s.here.locals x null)
-  paid_load (StaticAt c k) = paid_gives program n (λ s. or_null (static_at c k s.world.statics))
-  paid_load (FieldAt v c k) = paid_field_in (field_place program c k) v
-  paid_load (CellAt v object field) = paid_cell_at field false v
-  paid_load (ItemAt list at) = paid_on_collection program n (B.List L.Get) list (at ∷ [])
-
-  pub paid_store : (t : Target) (v : Value) → Paid program n (Pl.store program t v)
-  paid_store (LocalAt x) v = paid_puts program n (λ s. tt) (set_local x v) (λ s h. later_same program s.world h)
-  paid_store (StaticAt c k) v = paid_puts program n (λ s. tt) (λ s. with_statics (with_static c k v s.world.statics) s) (λ s h. later_statics program s.world _ h (stay_written c k v s.world.statics))
-  paid_store (FieldAt o c k) v = paid_set_field (field_place program c k) o v
-  paid_store (CellAt o object field) v = paid_set_cell field o v
-  paid_store (ItemAt list at) v = paid_bind program n _ _ (paid_on_collection program n (B.List L.Set) list (at ∷ v ∷ [])) (λ u. paid_gives program n (λ s. tt))
+  -- what a record gives, by the things that are there
+  pub paid_seen : (f : List Thing → Calc) → Paid program n (λ st. calc (f st.world.heap) st)
+  paid_seen f = record { at = λ st h lt. (paid_calc program n (f st.world.heap)).at st h lt }
 
   -- ---- casts and constants
 
@@ -110,39 +87,56 @@ module _ (program : Program) (n : ℕ) where
   paid_constant true k = paid_gives program n (λ s. _)
   paid_constant false k = paid_unbuilt program n
 
+module _ (setting : Setting) (n : ℕ) where
+  -- ---- all variables
+
+  pub paid_load : (t : Target) → Paid setting.program n (Pl.load setting t)
+  paid_load (LocalAt x) = paid_gives setting.program n (λ s. slice_index_or s.here.locals x null)
+  paid_load (StaticAt c k) = paid_gives setting.program n (λ s. or_null (static_at c k s.world.statics))
+  paid_load (FieldAt v c k) = paid_field_in setting.program n (field_place setting.program c k) v
+  paid_load (CellAt v object field) = paid_seen setting.program n (record_cell setting.schema field false v)
+  paid_load (ItemAt list at) = paid_on_collection setting.program n (B.List L.Get) list (at ∷ [])
+
+  pub paid_store : (t : Target) (v : Value) → Paid setting.program n (Pl.store setting t v)
+  paid_store (LocalAt x) v = paid_puts setting.program n (λ s. tt) (set_local x v) (λ s h. later_same setting.program s.world h)
+  paid_store (StaticAt c k) v = paid_puts setting.program n (λ s. tt) (λ s. with_statics (with_static c k v s.world.statics) s) (λ s h. later_statics setting.program s.world _ h (stay_written c k v s.world.statics))
+  paid_store (FieldAt o c k) v = paid_set_field setting.program n (field_place setting.program c k) o v
+  paid_store (CellAt o object field) v = paid_set_cell setting.program n field o v
+  paid_store (ItemAt list at) v = paid_bind setting.program n _ _ (paid_on_collection setting.program n (B.List L.Set) list (at ∷ v ∷ [])) (λ u. paid_gives setting.program n (λ s. tt))
+
 module _ (setting : Setting) (again : Again) (p : ℕ) (enough : Enough setting.program again p) where
   abbrev program : Program
   program = setting.program
 
-  paid_ready : (t : Target) → Paid program (suc p) (Pl.ready program again t)
+  paid_ready : (t : Target) → Paid program (suc p) (Pl.ready setting again t)
   paid_ready (StaticAt c k) = paid_prepared program again p enough c
   paid_ready (LocalAt x) = paid_gives program (suc p) (λ s. tt)
   paid_ready (FieldAt v c k) = paid_gives program (suc p) (λ s. tt)
   paid_ready (CellAt v object field) = paid_gives program (suc p) (λ s. tt)
   paid_ready (ItemAt list at) = paid_gives program (suc p) (λ s. tt)
 
-  pub paid_got : (t : Target) → Paid program (suc p) (Pl.got program again t)
-  paid_got t = paid_bind program (suc p) (Pl.ready program again t) _ (paid_ready t) (λ u. paid_load program (suc p) t)
+  pub paid_got : (t : Target) → Paid program (suc p) (Pl.got setting again t)
+  paid_got t = paid_bind program (suc p) (Pl.ready setting again t) _ (paid_ready t) (λ u. paid_load setting (suc p) t)
 
-  pub paid_assigned : (value : Run) (t : Target) → Paid program (suc p) value → Paid program (suc p) (Pl.assigned program again value t)
+  pub paid_assigned : (value : Run) (t : Target) → Paid program (suc p) value → Paid program (suc p) (Pl.assigned setting again value t)
   paid_assigned value t h =
       paid_bind program (suc p) value _ h
-      (λ v. paid_bind program (suc p) (Pl.ready program again t) _ (paid_ready t)
-      (λ u. paid_bind program (suc p) (Pl.store program t v) _ (paid_store program (suc p) t v) (λ u1. paid_gives program (suc p) (λ s. v))))
+      (λ v. paid_bind program (suc p) (Pl.ready setting again t) _ (paid_ready t)
+      (λ u. paid_bind program (suc p) (Pl.store setting t v) _ (paid_store setting (suc p) t v) (λ u1. paid_gives program (suc p) (λ s. v))))
 
-  pub paid_assigned_with : (how : Assignment) (value : Run) (t : Target) → Paid program (suc p) value → Paid program (suc p) (Pl.assigned_with program again how value t)
+  pub paid_assigned_with : (how : Assignment) (value : Run) (t : Target) → Paid program (suc p) value → Paid program (suc p) (Pl.assigned_with setting again how value t)
   paid_assigned_with how value t h =
-      paid_bind program (suc p) (Pl.got program again t) _ (paid_got t)
+      paid_bind program (suc p) (Pl.got setting again t) _ (paid_got t)
       (λ old. paid_bind program (suc p) value _ h
       (λ v. paid_bind program (suc p) _ _ (paid_apply program (suc p) how.left how.op how.right old v)
       (λ w. paid_bind program (suc p) _ _ (paid_calc program (suc p) (converted how.back w))
-      (λ x. paid_bind program (suc p) (Pl.store program t x) _ (paid_store program (suc p) t x) (λ u. paid_gives program (suc p) (λ s. x))))))
+      (λ x. paid_bind program (suc p) (Pl.store setting t x) _ (paid_store setting (suc p) t x) (λ u. paid_gives program (suc p) (λ s. x))))))
 
-  pub paid_changed : (kind : StepKind) (k : Number) (t : Target) → Paid program (suc p) (Pl.changed program again kind k t)
+  pub paid_changed : (kind : StepKind) (k : Number) (t : Target) → Paid program (suc p) (Pl.changed setting again kind k t)
   paid_changed kind k t =
-      paid_bind program (suc p) (Pl.got program again t) _ (paid_got t)
+      paid_bind program (suc p) (Pl.got setting again t) _ (paid_got t)
       (λ old. paid_bind program (suc p) _ _ (paid_calc program (suc p) (stepped kind.up k old))
-      (λ new. paid_bind program (suc p) (Pl.store program t new) _ (paid_store program (suc p) t new) (λ u. paid_gives program (suc p) (λ s. cond kind.before new old))))
+      (λ new. paid_bind program (suc p) (Pl.store setting t new) _ (paid_store setting (suc p) t new) (λ u. paid_gives program (suc p) (λ s. cond kind.before new old))))
 
   -- ---- debug lines and calls
 

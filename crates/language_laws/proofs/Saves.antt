@@ -1,19 +1,14 @@
--- Saves and queries keep a request in order.
+-- Saves keep a request in order.
 use Rattle.std.proofs.Common.{ℕ, zero, suc, Bool, true, false, List, [], ◌∷◌, ◌++◌, length, Option, None, Some, refl}
-use Rattle.std.specs.Prelude.{eqb, pos, slice_get}
-use Rattle.apex_num.specs.declared.cell.Cell.TheVariants as C
-use Rattle.apex_num.specs.declared.kind.LimitKind.TheVariants.{Queries, Rows, Dml, Saved}
+use Rattle.std.specs.Prelude.{eqb, slice_get}
+use Rattle.apex_num.specs.declared.kind.LimitKind.TheVariants.{Dml, Saved}
 use Rattle.apex_schema.specs.declared.schema.Object.{Object}
-use Rattle.apex_rows.specs.declared.query.Cond.{Cond}
-use Rattle.apex_rows.specs.declared.query.Query.{Query}
 use Rattle.apex_requests.specs.declared.request.Op.{Op}
 use Rattle.apex_requests.specs.declared.request.SaveRow.{SaveRow}
 use Rattle.platform_errors.specs.declared.record.RecordError.{RecordError}
 use Rattle.platform_errors.specs.declared.thrown.Thrown.{Thrown}
 use Rattle.platform_errors.specs.declared.thrown.Thrown.TheVariants.{NullObject}
 use Rattle.row_meaning.specs.Overlays.{Overlay}
-use Rattle.save_meaning.specs.Counts.{count, count_of}
-use Rattle.save_meaning.specs.Inserts.{rows_of_answer}
 use Rattle.save_meaning.specs.Results as R
 use Rattle.save_meaning.specs.Results.{Gives, bind}
 use Rattle.save_meaning.specs.Sites.{Site}
@@ -28,13 +23,11 @@ use Rattle.save_statements.specs.declared.statement.Chunk.{Chunk}
 use Rattle.save_statements.specs.declared.statement.Placed.{Placed}
 use Rattle.save_statements.specs.declared.statement.RecordOutcome.{RecordOutcome}
 use Rattle.save_statements.specs.declared.statement.Told.{Told}
-use Rattle.request_states.specs.Expressions as E
 use Rattle.request_states.specs.States.{State, keeps, saved, thrown, with_heap}
 use Rattle.request_states.specs.Statements.{name_records, no_code, rows_in, save_at, save_these}
-use Rattle.txn_heap.specs.declared.thing.Value.TheVariants.{Plain}
 use Rattle.typed_program.specs.declared.program.Program.{Program}
 use Rattle.language_laws.proofs.Paid.{Paid, paid_gives, paid_puts, paid_bind, paid_before, freely, paid_charge, paid_leaving, paid_throws, paid_unbuilt}
-use Rattle.language_laws.proofs.Phases.{Orderly, paid_ask, paid_chunk}
+use Rattle.language_laws.proofs.Phases.{Orderly, paid_chunk}
 use Rattle.language_laws.proofs.Worlds.{Sound, Later, later_same, later_kept}
 
 -- ---- saves with whatever code around them that keeps a request in order
@@ -125,20 +118,3 @@ module _ (program : Program) (site : Site) (n : ℕ) where
   pub paid_save_these : (op : Op) (r : Option (ℕ × List ℕ)) → Paid program n (save_these site op r)
   paid_save_these op None = paid_throws program n NullObject
   paid_save_these op (Some r) = paid_save_at op r.0 r.1
-
-  -- ---- queries
-
-  paid_count : {E : Type 0} (object : ℕ) (c : Cond) → Paid program {E = E} n (count keeps object c)
-  paid_count object c =
-      paid_bind program n (charge keeps Queries 1) _ (paid_charge program n Queries 1 (λ ones. refl))
-      (λ u. paid_bind program n _ _ (paid_ask program n _)
-      (λ a. paid_bind program n (charge keeps Rows 1) _ (paid_charge program n Rows 1 (freely program))
-      (λ v. paid_gives program n (λ s3. count_of s3.world.txn.overlay object c (rows_of_answer a)))))
-
-  paid_count_if : (b : Bool) (object : ℕ) (c : Cond) → Paid program n (E.count_if site b object c)
-  paid_count_if true object c = paid_bind program n (count keeps object c) (λ m s. Gives (Plain (C.Whole (pos m))) s) (paid_count object c) (λ m. paid_gives program n (λ s. Plain (C.Whole (pos m))))
-  paid_count_if false object c = paid_unbuilt program n
-
-  pub paid_query : {A : Type 0} (q : Query) (bs : List A) → Paid program n (E.query_with site q bs)
-  paid_query q [] = paid_count_if _ _ _
-  paid_query q (b ∷ bs) = paid_unbuilt program n

@@ -26,6 +26,7 @@ use Rattle.typed_program.specs.declared.stmt.TypedStmt.TheOpen.{TypedStmt-F, Typ
 use Rattle.typed_program.specs.declared.stmt.TypedStmt.TheViews.{roll-TypedStmt, roll-TypedCatch}
 use Rattle.typed_program.specs.declared.stmt.TypedStmt.TheFolds.{fold-TypedCatch, fold-roll-TypedStmt, fold-roll-TypedCatch, ind-TypedStmt, map-TypedStmt, map-TypedCatch}
 use Rattle.value_operators.specs.Operators.{converted}
+use Rattle.apex_meaning.specs.Collections.{items_of}
 use Rattle.apex_meaning.specs.Exceptions as X
 use Rattle.apex_meaning.specs.Exceptions.{Clause, catching, caught_by, clause_for, takes, throw}
 use Rattle.apex_meaning.specs.Meanings.{Again, Do, all_do, calc, test}
@@ -185,8 +186,8 @@ module _ (setting : Setting) (again : Again) (names : List (List ℕ)) (p : ℕ)
   tries : (ss : List SuchStmt) (cs : List SuchCatch) → Paid (λ st. catching setting.program (map clause (map (λ c. c.0) cs)) (all_do (map (D.does setting again names) (map (λ s. s.0) ss)) st))
   tries ss cs = paid_catching setting.program (suc p) (all_do (map (D.does setting again names) (map (λ s. s.0) ss))) (map clause (map (λ c. c.0) cs)) (stmts ss) (each_clause cs)
 
-  items : (slot : ℕ) (how : Conversion) (v : Value) (x : SuchStmt) → Paid (λ s. D.each_of slot how (D.does setting again names x.0) (D.items_of v s.world.heap) s)
-  items slot how v x = record { at = λ st s lt. (paid_each_of setting.program (suc p) slot how (D.does setting again names x.0) (D.items_of v st.world.heap) x.1).at st s lt }
+  items : (slot : ℕ) (how : Conversion) (v : Value) (x : SuchStmt) → Paid (λ s. D.each_of slot how (D.does setting again names x.0) (items_of v s.world.heap) s)
+  items slot how v x = record { at = λ st s lt. (paid_each_of setting.program (suc p) slot how (D.does setting again names x.0) (items_of v st.world.heap) x.1).at st s lt }
 
   saves : (op : DmlOp) (what : Saved) (v : Value) → Paid (λ s. save_these (site_of setting) (op_of op) (records_of what v s.world.heap) s)
   saves op what v = record { at = λ st s lt. (paid_save_these setting.program (site_of setting) (suc p) (op_of op) (records_of what v st.world.heap)).at st s lt }

@@ -3,6 +3,9 @@ use Rattle.std.proofs.Common.{ℕ, suc, true, false, cond, List, [], ◌∷◌, 
 use Rattle.std.specs.Prelude.{slice_index_or}
 use Rattle.builtin_table.specs.declared.method.Builtin.TheVariants as B
 use Rattle.builtin_table.specs.declared.method.ListMethod.TheVariants as L
+use Rattle.query_records.specs.Shapes.{queried}
+use Rattle.static_types.specs.declared.kind.Primitive.TheVariants as Primitive
+use Rattle.typed_program.specs.declared.expr.CollectionKind.TheVariants as Kinds
 use Rattle.typed_program.specs.declared.expr.Conversion.{Conversion}
 use Rattle.typed_program.specs.declared.expr.Conversion.TheVariants as To
 use Rattle.typed_program.specs.declared.expr.TypedBind.{TypedBind}
@@ -13,9 +16,9 @@ use Rattle.typed_program.specs.declared.expr.TypedOperand.{TypedOperand}
 use Rattle.typed_program.specs.declared.expr.TypedPair.{TypedPair}
 use Rattle.typed_program.specs.declared.expr.TypedPart.{TypedPart}
 use Rattle.typed_program.specs.declared.expr.TypedPlace.{TypedPlace}
-use Rattle.typed_program.specs.declared.expr.TypedBind.TheOpen.{TypedExpr-F, TypedNew-F, TypedPart-F, TypedPlace-F, TypedItem-F, TypedOperand-F, TypedPair-F}
-use Rattle.typed_program.specs.declared.expr.TypedBind.TheViews.{roll-TypedExpr, roll-TypedNew, roll-TypedPart, roll-TypedPlace, roll-TypedItem, roll-TypedOperand, roll-TypedPair}
-use Rattle.typed_program.specs.declared.expr.TypedBind.TheFolds.{fold-TypedBind, fold-TypedExpr, fold-TypedNew, fold-TypedPart, fold-TypedPlace, fold-TypedItem, fold-TypedOperand, fold-TypedPair, fold-roll-TypedExpr, fold-roll-TypedNew, fold-roll-TypedPart, fold-roll-TypedPlace, fold-roll-TypedItem, fold-roll-TypedOperand, fold-roll-TypedPair, ind-TypedExpr, map-TypedExpr, map-TypedNew, map-TypedPart, map-TypedPlace, map-TypedItem, map-TypedOperand, map-TypedPair}
+use Rattle.typed_program.specs.declared.expr.TypedBind.TheOpen.{TypedBind-F, TypedExpr-F, TypedNew-F, TypedPart-F, TypedPlace-F, TypedItem-F, TypedOperand-F, TypedPair-F}
+use Rattle.typed_program.specs.declared.expr.TypedBind.TheViews.{roll-TypedBind, roll-TypedExpr, roll-TypedNew, roll-TypedPart, roll-TypedPlace, roll-TypedItem, roll-TypedOperand, roll-TypedPair}
+use Rattle.typed_program.specs.declared.expr.TypedBind.TheFolds.{fold-TypedBind, fold-TypedExpr, fold-TypedNew, fold-TypedPart, fold-TypedPlace, fold-TypedItem, fold-TypedOperand, fold-TypedPair, fold-roll-TypedBind, fold-roll-TypedExpr, fold-roll-TypedNew, fold-roll-TypedPart, fold-roll-TypedPlace, fold-roll-TypedItem, fold-roll-TypedOperand, fold-roll-TypedPair, ind-TypedExpr, map-TypedBind, map-TypedExpr, map-TypedNew, map-TypedPart, map-TypedPlace, map-TypedItem, map-TypedOperand, map-TypedPair}
 use Rattle.txn_heap.specs.declared.thing.Value.{Value}
 use Rattle.save_meaning.specs.Results.{bind}
 use Rattle.value_operators.specs.Operators.{converted, negated}
@@ -26,14 +29,16 @@ use Rattle.request_states.specs.Values.{null, is_cell}
 use Rattle.apex_meaning.specs.Classes.{field_place}
 use Rattle.apex_meaning.specs.Exceptions.{is_declared, is_built_in}
 use Rattle.apex_meaning.specs.Expressions as E
-use Rattle.apex_meaning.specs.Expressions.{Where, Entry, all_entries, parts_of}
+use Rattle.apex_meaning.specs.Expressions.{Where, Entry, Given, all_entries, parts_of}
 use Rattle.apex_meaning.specs.Meanings.{Again, Run, Behind, all_of, calc, test}
 use Rattle.apex_meaning.specs.Operations.{boolean, chained}
 use Rattle.apex_meaning.specs.Places.{LocalAt, StaticAt, FieldAt, CellAt, ItemAt}
+use Rattle.apex_meaning.specs.Queries.{all_bound}
+use Rattle.apex_meaning.specs.Records.{cell_in, children_in, only, parent_in}
 use Rattle.language_laws.proofs.Paid.{Paid as From, Each, none, more, paid_gives, paid_bind, paid_unbuilt, paid_calc, paid_test, paid_all_of}
 use Rattle.language_laws.proofs.Classes.{Enough, paid_new}
 use Rattle.language_laws.proofs.Places as Pl
-use Rattle.language_laws.proofs.Saves.{paid_query}
+use Rattle.language_laws.proofs.Queries.{paid_on_bound}
 use Rattle.language_laws.proofs.Things as Th
 
 module _ (setting : Setting) (again : Again) (names : List (List ℕ)) (p : ℕ) (enough : Enough setting.program again p) where
@@ -42,34 +47,34 @@ module _ (setting : Setting) (again : Again) (names : List (List ℕ)) (p : ℕ)
 
   -- ---- what each part does
 
-  abbrev bind_run : TypedBind → Run
-  bind_run = fold-TypedBind Run Run Run Behind Where Entry Behind (ℕ × Run) (E.bind_step setting again names) (E.expr_step setting again names) (E.new_step setting again) (E.part_step setting again) (E.place_step setting again) (E.item_step setting again names) (E.operand_step setting again names) (E.pair_step setting again names)
+  abbrev bind_run : TypedBind → Given
+  bind_run = fold-TypedBind Given Run Run Behind Where Entry Behind (ℕ × Run) (E.bind_step setting again names) (E.expr_step setting again names) (E.new_step setting again) (E.part_step setting again) (E.place_step setting again) (E.item_step setting again names) (E.operand_step setting again names) (E.pair_step setting again names)
 
   abbrev expr_run : TypedExpr → Run
-  expr_run = fold-TypedExpr Run Run Run Behind Where Entry Behind (ℕ × Run) (E.bind_step setting again names) (E.expr_step setting again names) (E.new_step setting again) (E.part_step setting again) (E.place_step setting again) (E.item_step setting again names) (E.operand_step setting again names) (E.pair_step setting again names)
+  expr_run = fold-TypedExpr Given Run Run Behind Where Entry Behind (ℕ × Run) (E.bind_step setting again names) (E.expr_step setting again names) (E.new_step setting again) (E.part_step setting again) (E.place_step setting again) (E.item_step setting again names) (E.operand_step setting again names) (E.pair_step setting again names)
 
   abbrev new_run : TypedNew → Run
-  new_run = fold-TypedNew Run Run Run Behind Where Entry Behind (ℕ × Run) (E.bind_step setting again names) (E.expr_step setting again names) (E.new_step setting again) (E.part_step setting again) (E.place_step setting again) (E.item_step setting again names) (E.operand_step setting again names) (E.pair_step setting again names)
+  new_run = fold-TypedNew Given Run Run Behind Where Entry Behind (ℕ × Run) (E.bind_step setting again names) (E.expr_step setting again names) (E.new_step setting again) (E.part_step setting again) (E.place_step setting again) (E.item_step setting again names) (E.operand_step setting again names) (E.pair_step setting again names)
 
   abbrev part_run : TypedPart → Behind
-  part_run = fold-TypedPart Run Run Run Behind Where Entry Behind (ℕ × Run) (E.bind_step setting again names) (E.expr_step setting again names) (E.new_step setting again) (E.part_step setting again) (E.place_step setting again) (E.item_step setting again names) (E.operand_step setting again names) (E.pair_step setting again names)
+  part_run = fold-TypedPart Given Run Run Behind Where Entry Behind (ℕ × Run) (E.bind_step setting again names) (E.expr_step setting again names) (E.new_step setting again) (E.part_step setting again) (E.place_step setting again) (E.item_step setting again names) (E.operand_step setting again names) (E.pair_step setting again names)
 
   abbrev place_run : TypedPlace → Where
-  place_run = fold-TypedPlace Run Run Run Behind Where Entry Behind (ℕ × Run) (E.bind_step setting again names) (E.expr_step setting again names) (E.new_step setting again) (E.part_step setting again) (E.place_step setting again) (E.item_step setting again names) (E.operand_step setting again names) (E.pair_step setting again names)
+  place_run = fold-TypedPlace Given Run Run Behind Where Entry Behind (ℕ × Run) (E.bind_step setting again names) (E.expr_step setting again names) (E.new_step setting again) (E.part_step setting again) (E.place_step setting again) (E.item_step setting again names) (E.operand_step setting again names) (E.pair_step setting again names)
 
   abbrev item_run : TypedItem → Entry
-  item_run = fold-TypedItem Run Run Run Behind Where Entry Behind (ℕ × Run) (E.bind_step setting again names) (E.expr_step setting again names) (E.new_step setting again) (E.part_step setting again) (E.place_step setting again) (E.item_step setting again names) (E.operand_step setting again names) (E.pair_step setting again names)
+  item_run = fold-TypedItem Given Run Run Behind Where Entry Behind (ℕ × Run) (E.bind_step setting again names) (E.expr_step setting again names) (E.new_step setting again) (E.part_step setting again) (E.place_step setting again) (E.item_step setting again names) (E.operand_step setting again names) (E.pair_step setting again names)
 
   abbrev operand_run : TypedOperand → Behind
-  operand_run = fold-TypedOperand Run Run Run Behind Where Entry Behind (ℕ × Run) (E.bind_step setting again names) (E.expr_step setting again names) (E.new_step setting again) (E.part_step setting again) (E.place_step setting again) (E.item_step setting again names) (E.operand_step setting again names) (E.pair_step setting again names)
+  operand_run = fold-TypedOperand Given Run Run Behind Where Entry Behind (ℕ × Run) (E.bind_step setting again names) (E.expr_step setting again names) (E.new_step setting again) (E.part_step setting again) (E.place_step setting again) (E.item_step setting again names) (E.operand_step setting again names) (E.pair_step setting again names)
 
   abbrev pair_run : TypedPair → ℕ × Run
-  pair_run = fold-TypedPair Run Run Run Behind Where Entry Behind (ℕ × Run) (E.bind_step setting again names) (E.expr_step setting again names) (E.new_step setting again) (E.part_step setting again) (E.place_step setting again) (E.item_step setting again names) (E.operand_step setting again names) (E.pair_step setting again names)
+  pair_run = fold-TypedPair Given Run Run Behind Where Entry Behind (ℕ × Run) (E.bind_step setting again names) (E.expr_step setting again names) (E.new_step setting again) (E.part_step setting again) (E.place_step setting again) (E.item_step setting again names) (E.operand_step setting again names) (E.pair_step setting again names)
 
   -- ---- what holds of each part
 
   abbrev OfBind : TypedBind → Type 0
-  OfBind b = Unit {0}
+  OfBind b = Paid (bind_run b).1
 
   abbrev OfExpr : TypedExpr → Type 0
   OfExpr e = Paid (expr_run e)
@@ -118,6 +123,12 @@ module _ (setting : Setting) (again : Again) (names : List (List ℕ)) (p : ℕ)
 
   -- ---- layers over such parts, and the trees that they make
 
+  abbrev BindLayer : Type 0
+  BindLayer = TypedBind-F SuchBind SuchExpr SuchNew SuchPart SuchPlace SuchItem SuchOperand SuchPair
+
+  abbrev bind_in : BindLayer → TypedBind
+  bind_in y = roll-TypedBind (map-TypedBind SuchBind SuchExpr SuchNew SuchPart SuchPlace SuchItem SuchOperand SuchPair TypedBind TypedExpr TypedNew TypedPart TypedPlace TypedItem TypedOperand TypedPair (λ x. x.0) (λ x. x.0) (λ x. x.0) (λ x. x.0) (λ x. x.0) (λ x. x.0) (λ x. x.0) (λ x. x.0) y)
+
   abbrev ExprLayer : Type 0
   ExprLayer = TypedExpr-F SuchBind SuchExpr SuchNew SuchPart SuchPlace SuchItem SuchOperand SuchPair
 
@@ -162,26 +173,29 @@ module _ (setting : Setting) (again : Again) (names : List (List ℕ)) (p : ℕ)
 
   -- ---- what a tree does is what its form does with its parts
 
-  expr_does : (z : TypedExpr-F TypedBind TypedExpr TypedNew TypedPart TypedPlace TypedItem TypedOperand TypedPair) → Paid (E.expr_step setting again names (map-TypedExpr TypedBind TypedExpr TypedNew TypedPart TypedPlace TypedItem TypedOperand TypedPair Run Run Run Behind Where Entry Behind (ℕ × Run) bind_run expr_run new_run part_run place_run item_run operand_run pair_run z)) → Paid (expr_run (roll-TypedExpr z))
-  expr_does z h = subst (λ f. Paid f) (sym (fold-roll-TypedExpr Run Run Run Behind Where Entry Behind (ℕ × Run) (E.bind_step setting again names) (E.expr_step setting again names) (E.new_step setting again) (E.part_step setting again) (E.place_step setting again) (E.item_step setting again names) (E.operand_step setting again names) (E.pair_step setting again names) z)) h
+  bind_does : (z : TypedBind-F TypedBind TypedExpr TypedNew TypedPart TypedPlace TypedItem TypedOperand TypedPair) → Paid (E.bind_step setting again names (map-TypedBind TypedBind TypedExpr TypedNew TypedPart TypedPlace TypedItem TypedOperand TypedPair Given Run Run Behind Where Entry Behind (ℕ × Run) bind_run expr_run new_run part_run place_run item_run operand_run pair_run z)).1 → Paid (bind_run (roll-TypedBind z)).1
+  bind_does z h = subst (λ (f : Given). Paid f.1) (sym (fold-roll-TypedBind Given Run Run Behind Where Entry Behind (ℕ × Run) (E.bind_step setting again names) (E.expr_step setting again names) (E.new_step setting again) (E.part_step setting again) (E.place_step setting again) (E.item_step setting again names) (E.operand_step setting again names) (E.pair_step setting again names) z)) h
 
-  new_does : (z : TypedNew-F TypedBind TypedExpr TypedNew TypedPart TypedPlace TypedItem TypedOperand TypedPair) → Paid (E.new_step setting again (map-TypedNew TypedBind TypedExpr TypedNew TypedPart TypedPlace TypedItem TypedOperand TypedPair Run Run Run Behind Where Entry Behind (ℕ × Run) bind_run expr_run new_run part_run place_run item_run operand_run pair_run z)) → Paid (new_run (roll-TypedNew z))
-  new_does z h = subst (λ f. Paid f) (sym (fold-roll-TypedNew Run Run Run Behind Where Entry Behind (ℕ × Run) (E.bind_step setting again names) (E.expr_step setting again names) (E.new_step setting again) (E.part_step setting again) (E.place_step setting again) (E.item_step setting again names) (E.operand_step setting again names) (E.pair_step setting again names) z)) h
+  expr_does : (z : TypedExpr-F TypedBind TypedExpr TypedNew TypedPart TypedPlace TypedItem TypedOperand TypedPair) → Paid (E.expr_step setting again names (map-TypedExpr TypedBind TypedExpr TypedNew TypedPart TypedPlace TypedItem TypedOperand TypedPair Given Run Run Behind Where Entry Behind (ℕ × Run) bind_run expr_run new_run part_run place_run item_run operand_run pair_run z)) → Paid (expr_run (roll-TypedExpr z))
+  expr_does z h = subst (λ f. Paid f) (sym (fold-roll-TypedExpr Given Run Run Behind Where Entry Behind (ℕ × Run) (E.bind_step setting again names) (E.expr_step setting again names) (E.new_step setting again) (E.part_step setting again) (E.place_step setting again) (E.item_step setting again names) (E.operand_step setting again names) (E.pair_step setting again names) z)) h
 
-  part_does : (z : TypedPart-F TypedBind TypedExpr TypedNew TypedPart TypedPlace TypedItem TypedOperand TypedPair) (v : Value) → Paid (E.part_step setting again (map-TypedPart TypedBind TypedExpr TypedNew TypedPart TypedPlace TypedItem TypedOperand TypedPair Run Run Run Behind Where Entry Behind (ℕ × Run) bind_run expr_run new_run part_run place_run item_run operand_run pair_run z) v) → Paid (part_run (roll-TypedPart z) v)
-  part_does z v h = subst (λ f. Paid (f v)) (sym (fold-roll-TypedPart Run Run Run Behind Where Entry Behind (ℕ × Run) (E.bind_step setting again names) (E.expr_step setting again names) (E.new_step setting again) (E.part_step setting again) (E.place_step setting again) (E.item_step setting again names) (E.operand_step setting again names) (E.pair_step setting again names) z)) h
+  new_does : (z : TypedNew-F TypedBind TypedExpr TypedNew TypedPart TypedPlace TypedItem TypedOperand TypedPair) → Paid (E.new_step setting again (map-TypedNew TypedBind TypedExpr TypedNew TypedPart TypedPlace TypedItem TypedOperand TypedPair Given Run Run Behind Where Entry Behind (ℕ × Run) bind_run expr_run new_run part_run place_run item_run operand_run pair_run z)) → Paid (new_run (roll-TypedNew z))
+  new_does z h = subst (λ f. Paid f) (sym (fold-roll-TypedNew Given Run Run Behind Where Entry Behind (ℕ × Run) (E.bind_step setting again names) (E.expr_step setting again names) (E.new_step setting again) (E.part_step setting again) (E.place_step setting again) (E.item_step setting again names) (E.operand_step setting again names) (E.pair_step setting again names) z)) h
 
-  place_does : (z : TypedPlace-F TypedBind TypedExpr TypedNew TypedPart TypedPlace TypedItem TypedOperand TypedPair) → Paid (E.place_step setting again (map-TypedPlace TypedBind TypedExpr TypedNew TypedPart TypedPlace TypedItem TypedOperand TypedPair Run Run Run Behind Where Entry Behind (ℕ × Run) bind_run expr_run new_run part_run place_run item_run operand_run pair_run z)) → Paid (place_run (roll-TypedPlace z))
-  place_does z h = subst (λ f. Paid f) (sym (fold-roll-TypedPlace Run Run Run Behind Where Entry Behind (ℕ × Run) (E.bind_step setting again names) (E.expr_step setting again names) (E.new_step setting again) (E.part_step setting again) (E.place_step setting again) (E.item_step setting again names) (E.operand_step setting again names) (E.pair_step setting again names) z)) h
+  part_does : (z : TypedPart-F TypedBind TypedExpr TypedNew TypedPart TypedPlace TypedItem TypedOperand TypedPair) (v : Value) → Paid (E.part_step setting again (map-TypedPart TypedBind TypedExpr TypedNew TypedPart TypedPlace TypedItem TypedOperand TypedPair Given Run Run Behind Where Entry Behind (ℕ × Run) bind_run expr_run new_run part_run place_run item_run operand_run pair_run z) v) → Paid (part_run (roll-TypedPart z) v)
+  part_does z v h = subst (λ f. Paid (f v)) (sym (fold-roll-TypedPart Given Run Run Behind Where Entry Behind (ℕ × Run) (E.bind_step setting again names) (E.expr_step setting again names) (E.new_step setting again) (E.part_step setting again) (E.place_step setting again) (E.item_step setting again names) (E.operand_step setting again names) (E.pair_step setting again names) z)) h
 
-  item_does : (z : TypedItem-F TypedBind TypedExpr TypedNew TypedPart TypedPlace TypedItem TypedOperand TypedPair) → Paid (E.item_step setting again names (map-TypedItem TypedBind TypedExpr TypedNew TypedPart TypedPlace TypedItem TypedOperand TypedPair Run Run Run Behind Where Entry Behind (ℕ × Run) bind_run expr_run new_run part_run place_run item_run operand_run pair_run z)) → Paid (item_run (roll-TypedItem z))
-  item_does z h = subst (λ f. Paid f) (sym (fold-roll-TypedItem Run Run Run Behind Where Entry Behind (ℕ × Run) (E.bind_step setting again names) (E.expr_step setting again names) (E.new_step setting again) (E.part_step setting again) (E.place_step setting again) (E.item_step setting again names) (E.operand_step setting again names) (E.pair_step setting again names) z)) h
+  place_does : (z : TypedPlace-F TypedBind TypedExpr TypedNew TypedPart TypedPlace TypedItem TypedOperand TypedPair) → Paid (E.place_step setting again (map-TypedPlace TypedBind TypedExpr TypedNew TypedPart TypedPlace TypedItem TypedOperand TypedPair Given Run Run Behind Where Entry Behind (ℕ × Run) bind_run expr_run new_run part_run place_run item_run operand_run pair_run z)) → Paid (place_run (roll-TypedPlace z))
+  place_does z h = subst (λ f. Paid f) (sym (fold-roll-TypedPlace Given Run Run Behind Where Entry Behind (ℕ × Run) (E.bind_step setting again names) (E.expr_step setting again names) (E.new_step setting again) (E.part_step setting again) (E.place_step setting again) (E.item_step setting again names) (E.operand_step setting again names) (E.pair_step setting again names) z)) h
 
-  operand_does : (z : TypedOperand-F TypedBind TypedExpr TypedNew TypedPart TypedPlace TypedItem TypedOperand TypedPair) (v : Value) → Paid (E.operand_step setting again names (map-TypedOperand TypedBind TypedExpr TypedNew TypedPart TypedPlace TypedItem TypedOperand TypedPair Run Run Run Behind Where Entry Behind (ℕ × Run) bind_run expr_run new_run part_run place_run item_run operand_run pair_run z) v) → Paid (operand_run (roll-TypedOperand z) v)
-  operand_does z v h = subst (λ f. Paid (f v)) (sym (fold-roll-TypedOperand Run Run Run Behind Where Entry Behind (ℕ × Run) (E.bind_step setting again names) (E.expr_step setting again names) (E.new_step setting again) (E.part_step setting again) (E.place_step setting again) (E.item_step setting again names) (E.operand_step setting again names) (E.pair_step setting again names) z)) h
+  item_does : (z : TypedItem-F TypedBind TypedExpr TypedNew TypedPart TypedPlace TypedItem TypedOperand TypedPair) → Paid (E.item_step setting again names (map-TypedItem TypedBind TypedExpr TypedNew TypedPart TypedPlace TypedItem TypedOperand TypedPair Given Run Run Behind Where Entry Behind (ℕ × Run) bind_run expr_run new_run part_run place_run item_run operand_run pair_run z)) → Paid (item_run (roll-TypedItem z))
+  item_does z h = subst (λ f. Paid f) (sym (fold-roll-TypedItem Given Run Run Behind Where Entry Behind (ℕ × Run) (E.bind_step setting again names) (E.expr_step setting again names) (E.new_step setting again) (E.part_step setting again) (E.place_step setting again) (E.item_step setting again names) (E.operand_step setting again names) (E.pair_step setting again names) z)) h
 
-  pair_does : (z : TypedPair-F TypedBind TypedExpr TypedNew TypedPart TypedPlace TypedItem TypedOperand TypedPair) → Paid (E.pair_step setting again names (map-TypedPair TypedBind TypedExpr TypedNew TypedPart TypedPlace TypedItem TypedOperand TypedPair Run Run Run Behind Where Entry Behind (ℕ × Run) bind_run expr_run new_run part_run place_run item_run operand_run pair_run z)).1 → Paid (pair_run (roll-TypedPair z)).1
-  pair_does z h = subst (λ (f : ℕ × Run). Paid f.1) (sym (fold-roll-TypedPair Run Run Run Behind Where Entry Behind (ℕ × Run) (E.bind_step setting again names) (E.expr_step setting again names) (E.new_step setting again) (E.part_step setting again) (E.place_step setting again) (E.item_step setting again names) (E.operand_step setting again names) (E.pair_step setting again names) z)) h
+  operand_does : (z : TypedOperand-F TypedBind TypedExpr TypedNew TypedPart TypedPlace TypedItem TypedOperand TypedPair) (v : Value) → Paid (E.operand_step setting again names (map-TypedOperand TypedBind TypedExpr TypedNew TypedPart TypedPlace TypedItem TypedOperand TypedPair Given Run Run Behind Where Entry Behind (ℕ × Run) bind_run expr_run new_run part_run place_run item_run operand_run pair_run z) v) → Paid (operand_run (roll-TypedOperand z) v)
+  operand_does z v h = subst (λ f. Paid (f v)) (sym (fold-roll-TypedOperand Given Run Run Behind Where Entry Behind (ℕ × Run) (E.bind_step setting again names) (E.expr_step setting again names) (E.new_step setting again) (E.part_step setting again) (E.place_step setting again) (E.item_step setting again names) (E.operand_step setting again names) (E.pair_step setting again names) z)) h
+
+  pair_does : (z : TypedPair-F TypedBind TypedExpr TypedNew TypedPart TypedPlace TypedItem TypedOperand TypedPair) → Paid (E.pair_step setting again names (map-TypedPair TypedBind TypedExpr TypedNew TypedPart TypedPlace TypedItem TypedOperand TypedPair Given Run Run Behind Where Entry Behind (ℕ × Run) bind_run expr_run new_run part_run place_run item_run operand_run pair_run z)).1 → Paid (pair_run (roll-TypedPair z)).1
+  pair_does z h = subst (λ (f : ℕ × Run). Paid f.1) (sym (fold-roll-TypedPair Given Run Run Behind Where Entry Behind (ℕ × Run) (E.bind_step setting again names) (E.expr_step setting again names) (E.new_step setting again) (E.part_step setting again) (E.place_step setting again) (E.item_step setting again names) (E.operand_step setting again names) (E.pair_step setting again names) z)) h
 
   -- ---- lists of parts
 
@@ -191,6 +205,13 @@ module _ (setting : Setting) (again : Again) (names : List (List ℕ)) (p : ℕ)
 
   values : (es : List SuchExpr) → Paid (all_of (map expr_run (map (λ e. e.0) es)))
   values es = paid_all_of setting.program (suc p) _ (each_value es)
+
+  each_bind : (bs : List SuchBind) → Each setting.program (suc p) (map (λ (g : Given). g.1) (map bind_run (map (λ b. b.0) bs)))
+  each_bind [] = none
+  each_bind (b ∷ bs) = more b.1 (each_bind bs)
+
+  binds : (bs : List SuchBind) → Paid (all_of (map (λ (g : Given). g.1) (map bind_run (map (λ b. b.0) bs))))
+  binds bs = paid_all_of setting.program (suc p) _ (each_bind bs)
 
   chain : (os : List SuchOperand) (v : Value) → Paid (chained (map operand_run (map (λ o. o.0) os)) v)
   chain [] v = paid_gives setting.program (suc p) (λ s. v)
@@ -230,7 +251,7 @@ module _ (setting : Setting) (again : Again) (names : List (List ℕ)) (p : ℕ)
   expr_layer (TypedExpr-F.Convert To.ToDecimal x) = expr_does (TypedExpr-F.Convert To.ToDecimal x.0) (converts To.ToDecimal x)
   expr_layer (TypedExpr-F.Convert To.ToId x) = expr_does (TypedExpr-F.Convert To.ToId x.0) (converts To.ToId x)
   expr_layer (TypedExpr-F.Convert To.ToText x) = expr_does (TypedExpr-F.Convert To.ToText x.0) (converts To.ToText x)
-  expr_layer (TypedExpr-F.Convert To.ToRecord x) = expr_does (TypedExpr-F.Convert To.ToRecord x.0) (paid_unbuilt setting.program (suc p))
+  expr_layer (TypedExpr-F.Convert To.ToRecord x) = expr_does (TypedExpr-F.Convert To.ToRecord x.0) (paid_bind setting.program (suc p) (expr_run x.0) _ x.1 (λ v. Pl.paid_seen setting.program (suc p) (only v)))
   expr_layer (TypedExpr-F.Not x) =
       expr_does (TypedExpr-F.Not x.0) (paid_bind setting.program (suc p) (test (expr_run x.0)) _ (paid_test setting.program (suc p) (expr_run x.0) x.1) (λ b. paid_gives setting.program (suc p) (λ s. boolean (cond b false true))))
   expr_layer (TypedExpr-F.Minus m x) = expr_does (TypedExpr-F.Minus m x.0) (paid_bind setting.program (suc p) (expr_run x.0) _ x.1 (λ v. paid_calc setting.program (suc p) (negated m v)))
@@ -247,7 +268,14 @@ module _ (setting : Setting) (again : Again) (names : List (List ℕ)) (p : ℕ)
   expr_layer (TypedExpr-F.CallBuiltin which es) =
       expr_does (TypedExpr-F.CallBuiltin which (map (λ x. x.0) es)) (paid_bind setting.program (suc p) (all_of (map expr_run (map (λ x. x.0) es))) _ (values es) (λ vs. Th.paid_builtin setting.program (suc p) setting.ticket which vs))
   expr_layer (TypedExpr-F.Debug x) = expr_does (TypedExpr-F.Debug x.0) (paid_bind setting.program (suc p) (expr_run x.0) _ x.1 (λ v. Pl.paid_say setting again p enough names v))
-  expr_layer (TypedExpr-F.Query q bs) = expr_does (TypedExpr-F.Query q (map (λ x. x.0) bs)) (paid_query setting.program (site_of setting) (suc p) q _)
+  expr_layer (TypedExpr-F.Query q bs) =
+      expr_does (TypedExpr-F.Query q (map (λ x. x.0) bs))
+      (paid_bind setting.program (suc p) (all_of (map (λ (g : Given). g.1) (map bind_run (map (λ x. x.0) bs)))) _ (binds bs)
+      (λ vs. record { at = λ st s lt. (paid_on_bound setting.program (site_of setting) (suc p) (queried q) (all_bound (map (λ (g : Given). g.0) (map bind_run (map (λ x. x.0) bs))) vs st.world.heap)).at st s lt }))
+
+  bind_layer : (y : BindLayer) → Paid (bind_run (bind_in y)).1
+  bind_layer (TypedBind-F.One x) = bind_does (TypedBind-F.One x.0) x.1
+  bind_layer (TypedBind-F.Many how x) = bind_does (TypedBind-F.Many how x.0) x.1
 
   new_layer : (y : NewLayer) → Paid (new_run (new_in y))
   new_layer (TypedNew-F.Instance c k es) = new_does (TypedNew-F.Instance c k (map (λ x. x.0) es)) (paid_bind setting.program (suc p) (all_of (map expr_run (map (λ x. x.0) es))) _ (values es) (λ vs. paid_new setting.program again p enough c k vs))
@@ -256,7 +284,7 @@ module _ (setting : Setting) (again : Again) (names : List (List ℕ)) (p : ℕ)
   new_layer (TypedNew-F.Collection kind es) = new_does (TypedNew-F.Collection kind (map (λ x. x.0) es)) (paid_bind setting.program (suc p) (all_of (map expr_run (map (λ x. x.0) es))) _ (values es) (λ vs. Th.paid_filled setting.program (suc p) kind vs))
   new_layer (TypedNew-F.Map key is) = new_does (TypedNew-F.Map key (map (λ x. x.0) is)) (paid_bind setting.program (suc p) (all_entries (map item_run (map (λ x. x.0) is))) _ (entries is) (λ es. Th.paid_map setting.program (suc p) es))
   new_layer (TypedNew-F.Copy kind x) = new_does (TypedNew-F.Copy kind x.0) (paid_bind setting.program (suc p) (expr_run x.0) _ x.1 (λ v. Th.paid_copy setting.program (suc p) kind v))
-  new_layer (TypedNew-F.ById x) = new_does (TypedNew-F.ById x.0) (paid_unbuilt setting.program (suc p))
+  new_layer (TypedNew-F.ById x) = new_does (TypedNew-F.ById x.0) (paid_bind setting.program (suc p) (expr_run x.0) _ x.1 (λ v. Th.paid_copy setting.program (suc p) (Kinds.Map Primitive.Id) v))
 
   part_layer : (y : PartLayer) (v : Value) → Paid (part_run (part_in y) v)
   part_layer (TypedPart-F.«TypedPart::Field» c m) v = part_does (TypedPart-F.«TypedPart::Field» c m) v (Pl.paid_field_in setting.program (suc p) (field_place setting.program c m) v)
@@ -264,9 +292,9 @@ module _ (setting : Setting) (again : Again) (names : List (List ℕ)) (p : ℕ)
   part_layer (TypedPart-F.Call c m virtual es) v = part_does (TypedPart-F.Call c m virtual (map (λ x. x.0) es)) v (paid_bind setting.program (suc p) (all_of (map expr_run (map (λ x. x.0) es))) _ (values es) (λ vs. Pl.paid_call_on setting again p enough c m virtual vs v))
   part_layer (TypedPart-F.Builtin which es) v =
       part_does (TypedPart-F.Builtin which (map (λ x. x.0) es)) v (paid_bind setting.program (suc p) (all_of (map expr_run (map (λ x. x.0) es))) _ (values es) (λ vs. Th.paid_builtin setting.program (suc p) setting.ticket which (v ∷ vs)))
-  part_layer (TypedPart-F.«TypedPart::Cell» a b c) v = part_does (TypedPart-F.«TypedPart::Cell» a b c) v (Pl.paid_cell_at setting.program (suc p) b c v)
-  part_layer (TypedPart-F.Parent a b c) v = part_does (TypedPart-F.Parent a b c) v (paid_unbuilt setting.program (suc p))
-  part_layer (TypedPart-F.Children a b c) v = part_does (TypedPart-F.Children a b c) v (paid_unbuilt setting.program (suc p))
+  part_layer (TypedPart-F.«TypedPart::Cell» a b c) v = part_does (TypedPart-F.«TypedPart::Cell» a b c) v (Pl.paid_seen setting.program (suc p) (cell_in setting.schema b c v))
+  part_layer (TypedPart-F.Parent a b c) v = part_does (TypedPart-F.Parent a b c) v (Pl.paid_seen setting.program (suc p) (parent_in setting.schema b c v))
+  part_layer (TypedPart-F.Children a b c) v = part_does (TypedPart-F.Children a b c) v (Pl.paid_seen setting.program (suc p) (children_in setting.schema a b c v))
 
   place_layer : (y : PlaceLayer) → Paid (place_run (place_in y))
   place_layer (TypedPlace-F.«TypedPlace::Local» x) = place_does (TypedPlace-F.«TypedPlace::Local» x) (paid_gives setting.program (suc p) (λ s. LocalAt x))
@@ -288,7 +316,7 @@ module _ (setting : Setting) (again : Again) (names : List (List ℕ)) (p : ℕ)
   pub paid_expr : (e : TypedExpr) → Paid (E.value_of setting again names e)
   paid_expr =
       ind-TypedExpr OfBind OfExpr OfNew OfPart OfPlace OfItem OfOperand OfPair
-      (λ x y is. tt)
+      (λ x y is. subst (λ z. OfBind (roll-TypedBind z)) is (bind_layer y))
       (λ x y is. subst (λ z. OfExpr (roll-TypedExpr z)) is (expr_layer y))
       (λ x y is. subst (λ z. OfNew (roll-TypedNew z)) is (new_layer y))
       (λ x y is. subst (λ z. OfPart (roll-TypedPart z)) is (part_layer y))

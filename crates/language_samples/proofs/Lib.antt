@@ -5,3 +5,7 @@ pub mod First
 pub mod Second
 pub mod Records
 pub mod Saves
+pub mod League
+pub mod Queries
+pub mod Binds
+pub mod Under

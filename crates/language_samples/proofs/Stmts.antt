@@ -22,6 +22,7 @@ use Rattle.request_states.specs.Runs.{Setting, site_of}
 use Rattle.request_states.specs.Statements.{op_of, records_of, save_these}
 use Rattle.request_states.specs.States.{Res, charge, set_local}
 use Rattle.request_states.specs.Values.{null}
+use Rattle.apex_meaning.specs.Collections.{items_of}
 use Rattle.apex_meaning.specs.Exceptions.{Clause, Kind, catching, caught_by, clause_for, if_takes, kind_of, takes_form, throw as thrown}
 use Rattle.apex_meaning.specs.Meanings.{Again, Do, all_do, dropped, looping, finally, test}
 use Rattle.apex_meaning.specs.Statements as D
@@ -204,8 +205,8 @@ for_ever y = record {
 abbrev pub for_each : ℕ → ExprOf → StmtOf → StmtOf
 for_each x e y = record {
   tree = roll-TypedStmt (TypedStmt-F.ForEach x Same e.tree y.tree);
-  does = λ s a n. behind_step (λ st. bind (e.does s a n st) (λ v s1. D.each_of x Same (y.does s a n) (D.items_of v s1.world.heap) s1));
-  is = λ s a n. rolls s a n (TypedStmt-F.ForEach x Same e.tree y.tree) ∙ (λ i. behind_step (λ st. bind (e.is s a n i st) (λ v s1. D.each_of x Same (y.is s a n i) (D.items_of v s1.world.heap) s1)));
+  does = λ s a n. behind_step (λ st. bind (e.does s a n st) (λ v s1. D.each_of x Same (y.does s a n) (items_of v s1.world.heap) s1));
+  is = λ s a n. rolls s a n (TypedStmt-F.ForEach x Same e.tree y.tree) ∙ (λ i. behind_step (λ st. bind (e.is s a n i st) (λ v s1. D.each_of x Same (y.is s a n i) (items_of v s1.world.heap) s1)));
 }
 
 abbrev pub return : ExprOf → StmtOf

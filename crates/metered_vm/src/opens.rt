@@ -4,7 +4,7 @@ ghost use Rattle.std.specs.Prelude.{◌≡◌, ◌<◌, ◌+◌, ◌^◌, ◌∷
 ghost use Rattle.std.specs.Option.{option_copied};
 ghost use Rattle.activations.specs.declared.abrupt.Abrupt.TheVariants as Why;
 ghost use Rattle.apex_num.specs.declared.kind.LimitKind.TheVariants as K;
-ghost use Rattle.apex_meaning.specs.Statements as items;
+ghost use Rattle.apex_meaning.specs.Collections as items;
 ghost use Rattle.txn_heap.specs.declared.thing.Value.{Value as AnyValue};
 ghost use Rattle.value_operators.specs.Operators as operators;
 ghost use Rattle.stack_code.specs.Machine as machine;

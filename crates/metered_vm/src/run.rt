@@ -21,16 +21,17 @@ use crate::leaving::leaving;
 use crate::quick::{is_running, quick_run};
 use crate::step::act;
 use activations::Here;
-use apex_list::{Items, Stack};
+use apex_list::{Boxed, Items, Stack};
 use apex_num::{Cell, NoMemory};
 use apex_requests::{Outcome, Reply, Ticket};
 use apex_rows::{Answer, Question, Writes};
 use apex_schema::{Mode as Access, Schema};
 use limit_meter::{Limit, Meter};
-use program_things::{Moved, ask, count, reply_of, save};
+use program_things::{Moved, query, reply_of, save};
 use request_states::no_writes;
 use save_meaning::TxnState;
 use save_moves::given as save_given;
+use soql_run::given as query_given;
 use stack_code::{BodyAt, Config, Frame, Image, Mode, World};
 use std::alloc::Global;
 use std::mem::replace;
@@ -103,7 +104,12 @@ fn given_in(mode: Mode, answer: Answer) -> Result<Mode, NoMemory>
     ensures { IfOk result (λ m. m ≡ machine.given_in mode answer) }
 {
     match mode {
-        Mode::Asking(counting) => Ok(Mode::Counting(counting, answer)),
+        Mode::Querying(shape, run) => {
+            let mut run = run.into_value();
+            query_given(&mut run, answer)?;
+            let run = Boxed::new(shape.allocator(), run)?;
+            Ok(Mode::Querying(shape, run))
+        }
         Mode::Saving(places, run) => {
             let mut run = run;
             save_given(&mut run, answer)?;
@@ -147,13 +153,8 @@ fn step_aside(
             let moved = leaving(alloc, image, schema, ticket, why, c)?;
             Ok(moved)
         }
-        Mode::Asking(counting) => {
-            let moved = ask(alloc, counting.get())?;
-            c.mode = Mode::Asking(counting);
-            Ok(moved)
-        }
-        Mode::Counting(counting, answer) => {
-            let moved = count(alloc, counting.get(), answer, c)?;
+        Mode::Querying(shape, run) => {
+            let moved = query(alloc, schema, ticket, shape, run, c)?;
             Ok(moved)
         }
         Mode::Saving(places, run) => {
@@ -163,7 +164,7 @@ fn step_aside(
     }
 }
 
-// A step, or the way of a save to its next question or its end.
+// A step, or the way of a save or a query to its next question or its end.
 fn step_once(
     alloc: Global,
     image: &Image,

@@ -6,8 +6,9 @@ use Rattle.activations.specs.declared.abrupt.Abrupt.TheVariants.{Throws, Returns
 use Rattle.activations.specs.declared.abrupt.Raised.TheVariants.{Platform}
 use Rattle.request_states.specs.States.{State, Res, charge, keeps, set_local}
 use Rattle.apex_num.specs.declared.kind.LimitKind.TheVariants as K
+use Rattle.apex_meaning.specs.Collections.{items_of}
 use Rattle.apex_meaning.specs.Meanings.{Do, Test, calc, finally, looping}
-use Rattle.apex_meaning.specs.Statements.{each, each_of, items_of}
+use Rattle.apex_meaning.specs.Statements.{each, each_of}
 use Rattle.save_meaning.specs.Results.{Gives, Stops, Stop, Leaves, Closes, bind, Holds}
 use Rattle.save_meaning.specs.Sites.{Site}
 use Rattle.save_meaning.specs.declared.run.TxnState.{TxnState}

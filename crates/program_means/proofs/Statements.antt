@@ -11,6 +11,7 @@ use Rattle.request_states.specs.Values.{null}
 use Rattle.apex_num.specs.declared.cell.Cell.TheVariants as C
 use Rattle.apex_num.specs.declared.kind.LimitKind.TheVariants as K
 use Rattle.apex_syntax.specs.declared.stmt.DmlOp.{DmlOp}
+use Rattle.apex_meaning.specs.Collections.{items_of}
 use Rattle.apex_meaning.specs.Exceptions as E
 use Rattle.apex_meaning.specs.Expressions.{value_of}
 use Rattle.apex_meaning.specs.Meanings.{Again, Do, Run, Test, all_do, looping, test}
@@ -234,9 +235,9 @@ module _ (setting : Setting) (image : Image) (r : Trail.Run) (is : IsImage setti
   throw_so e = value_then site image r (value_of setting again names e) E.throw (Code.expr_code program e) (I.Throw ∷ []) (values e) (λ v a k s h. throw_at site image r v a k s h)
 
   each_so : (slot : ℕ) (how : Conversion) (e : TypedExpr) (f : Do) (is : Instrs) → DoesSo f is →
-      DoesSo (λ st. bind (value_of setting again names e st) (λ v s. D.each_of slot how f (D.items_of v s.world.heap) s)) (Code.expr_code program e ++ each_code slot how is)
+      DoesSo (λ st. bind (value_of setting again names e st) (λ v s. D.each_of slot how f (items_of v s.world.heap) s)) (Code.expr_code program e ++ each_code slot how is)
   each_so slot how e f is h =
-      value_then site image r (value_of setting again names e) (λ v s. D.each_of slot how f (D.items_of v s.world.heap) s) (Code.expr_code program e) (each_code slot how is) (values e)
+      value_then site image r (value_of setting again names e) (λ v s. D.each_of slot how f (items_of v s.world.heap) s) (Code.expr_code program e) (each_code slot how is) (values e)
       (λ v a k s g. Open.each_at site image r slot how f is h v a k s g)
 
   save_so : (op : DmlOp) (what : Saved) (e : TypedExpr) → DoesSo (λ st. bind (value_of setting again names e st) (λ v s. save_these site (op_of op) (records_of what v s.world.heap) s)) (Code.expr_code program e ++ I.Save (op_of op) what ∷ [])

@@ -1,5 +1,5 @@
 -- What variables come to that are read and assigned to.
-use Rattle.std.proofs.Common.{◌≡◌, ℕ, ◌+◌, Bool, true, false, cond, List, [], ◌∷◌, ◌++◌, length, drop, slice_get, slice_index_or, Option, Some, None, refl, ap, ◌∙◌, subst}
+use Rattle.std.proofs.Common.{◌≡◌, ℕ, ◌+◌, Bool, false, cond, List, [], ◌∷◌, ◌++◌, length, drop, slice_get, slice_index_or, Option, Some, None, refl, ap, ◌∙◌, subst}
 use Rattle.request_states.specs.Runs.{Setting, site_of}
 use Rattle.request_states.specs.States.{State, Res, charge, with_heap}
 use Rattle.apex_num.specs.declared.kind.LimitKind.TheVariants.{Alloc}
@@ -10,7 +10,8 @@ use Rattle.apex_meaning.specs.Collections.{on_collection}
 use Rattle.apex_meaning.specs.Expressions.{Where}
 use Rattle.apex_meaning.specs.Meanings.{Again, Run, calc}
 use Rattle.apex_meaning.specs.Operations.{apply}
-use Rattle.apex_meaning.specs.Places.{Target, LocalAt, StaticAt, FieldAt, CellAt, ItemAt, cell_at, cell_of_thing, field_in, field_of_thing, null_in_front, set_cell, set_cell_in_thing, set_field, set_in_thing, setting_units, with_cell, load, store, ready, got, assigned, assigned_with, changed}
+use Rattle.apex_meaning.specs.Places.{Target, LocalAt, StaticAt, FieldAt, CellAt, ItemAt, field_in, field_of_thing, set_cell, set_cell_in_thing, set_field, set_in_thing, setting_units, with_cell, load, store, ready, got, assigned, assigned_with, changed}
+use Rattle.apex_meaning.specs.Records.{cell_in as record_cell}
 use Rattle.save_meaning.proofs.Holding.{bind_bind, bound, weaken}
 use Rattle.save_meaning.specs.Results.{Gives, bind, Holds}
 use Rattle.save_meaning.specs.Sites.{Site}
@@ -71,7 +72,13 @@ as_many program (FieldAt v c n) = refl
 as_many program (CellAt v object field) = refl
 as_many program (ItemAt v w) = refl
 
-module _ (site : Site) (image : Image) (r : Trail.Run) (program : Program) where
+module _ (setting : Setting) (image : Image) (r : Trail.Run) where
+  abbrev site : Site
+  site = site_of setting
+
+  abbrev program : Program
+  program = setting.program
+
   abbrev At : Around → List Instr → List Value → State → Type 0
   At a k temps st = Sim.At site image r a k temps st
 
@@ -109,16 +116,10 @@ module _ (site : Site) (image : Image) (r : Trail.Run) (program : Program) where
 
   -- ---- cells of records
 
-  null_by : (a : Around) (goes_on : Bool) (pc : ℕ) (old : List Value) (st : State) (w : TxnState) (go : Value → Config → Next) (c : Config) → Stands a.below st w → Onward site image r a pc old go c (null_in_front goes_on st) → Sim.Comes site image r (M.null_loaded goes_on (config a pc old st w) go) c st.world.txn.tape
-  null_by a true pc old st w go c b post = post w b
-  null_by a false pc old st w go c b post = post.by pc [] w b
-
-  cell_by : (a : Around) (field : ℕ) (goes_on : Bool) (v : Value) (pc : ℕ) (old : List Value) (st : State) (w : TxnState) (go : Value → Config → Next) (c : Config) → Stands a.below st w → Onward site image r a pc old go c (cell_at field goes_on v st) → Sim.Comes site image r (M.cell_loaded field goes_on v (config a pc old st w) go) c st.world.txn.tape
-  cell_by a field goes_on (Plain cell) pc old st w go c b post = null_by a goes_on pc old st w go c b post
-  cell_by a field goes_on (Object ref) pc old st w go c b post = by (slice_get st.world.heap ref.place) post where
-    by : (t : Option Thing) → Onward site image r a pc old go c (cell_of_thing field t st) → Sim.Comes site image r (M.cell_of_thing field t (config a pc old st w) go) c st.world.txn.tape
-    by (Some (T.Record known)) h = h w b
-    by t h = h.by pc [] w b
+  -- what a record gives, or what is thrown in its place
+  given_by : (a : Around) (x : Calc) (pc : ℕ) (old : List Value) (st : State) (w : TxnState) (go : Value → Config → Next) (c : Config) → Stands a.below st w → Onward site image r a pc old go c (calc x st) → Sim.Comes site image r (on_calc x (config a pc old st w) (λ v. go v (config a pc old st w))) c st.world.txn.tape
+  given_by a (Val v) pc old st w go c b post = post w b
+  given_by a (Fails t) pc old st w go c b post = post.by pc [] w b
 
   set_cell_by : (a : Around) (field : ℕ) (v x : Value) (pc : ℕ) (old : List Value) (st : State) (w : TxnState) (go : Config → Next) (c : Config) → Stands a.below st w → Onward site image r a pc old (λ u. go) c (set_cell field v x st) → Sim.Comes site image r (M.cell_stored field v x (config a pc old st w) go) c st.world.txn.tape
   set_cell_by a field (Plain cell) x pc old st w go c b post = post.by pc [] w b
@@ -131,20 +132,21 @@ module _ (site : Site) (image : Image) (r : Trail.Run) (program : Program) where
     by t h = h.by pc [] w b
 
   -- a cell that is read
-  pub cell_part_at : (field : ℕ) (goes_on : Bool) → Sim.Takes site image r (cell_at field goes_on) (I.Get (S.Cell field goes_on) ∷ [])
+  pub cell_part_at : (field : ℕ) (goes_on : Bool) → Sim.Takes site image r (λ v st. calc (record_cell setting.schema field goes_on v st.world.heap) st) (I.Get (S.Cell field goes_on) ∷ [])
   cell_part_at field goes_on a v k temps st post =
-      Sim.first site image r a (I.Get (S.Cell field goes_on)) k (v ∷ temps) st (λ pc w b d. cell_by a field goes_on v pc (v ∷ temps) st w _ (config a pc (v ∷ temps) st w) b (onward site image r a pc k temps (v ∷ temps) (config a pc (v ∷ temps) st w) (cell_at field goes_on v st) d post))
+      Sim.first site image r a (I.Get (S.Cell field goes_on)) k (v ∷ temps) st (λ pc w b d. given_by a (record_cell setting.schema field goes_on v st.world.heap) pc (v ∷ temps) st w (λ x e. next e (x ∷ temps)) (config a pc (v ∷ temps) st w) b
+      (onward site image r a pc k temps (v ∷ temps) (config a pc (v ∷ temps) st w) (calc (record_cell setting.schema field goes_on v st.world.heap) st) d post))
 
   -- ---- all variables
 
-  loaded_by : (a : Around) (t : Target) (pc : ℕ) (old : List Value) (st : State) (w : TxnState) (go : Value → Config → Next) (c : Config) → Stands a.below st w → Onward site image r a pc old go c (load program t st) → Sim.Comes site image r (M.loaded (slot_of program t) (parts_in t) (config a pc old st w) go) c st.world.txn.tape
+  loaded_by : (a : Around) (t : Target) (pc : ℕ) (old : List Value) (st : State) (w : TxnState) (go : Value → Config → Next) (c : Config) → Stands a.below st w → Onward site image r a pc old go c (load setting t st) → Sim.Comes site image r (M.loaded setting.schema (slot_of program t) (parts_in t) (config a pc old st w) go) c st.world.txn.tape
   loaded_by a (LocalAt x) pc old st w go c b post = post w b
   loaded_by a (StaticAt k n) pc old st w go c b post = post w b
   loaded_by a (FieldAt v k n) pc old st w go c b post = field_by a (field_place program k n) v pc old st w go c b post
-  loaded_by a (CellAt v object field) pc old st w go c b post = cell_by a field false v pc old st w go c b post
+  loaded_by a (CellAt v object field) pc old st w go c b post = given_by a (record_cell setting.schema field false v st.world.heap) pc old st w go c b post
   loaded_by a (ItemAt v x) pc old st w go c b post = collection_at site image r a (Which.List L.Get) v (x ∷ []) pc old st w go c b post
 
-  stored_by : (a : Around) (t : Target) (x : Value) (pc : ℕ) (old : List Value) (st : State) (w : TxnState) (go : Config → Next) (c : Config) → Stands a.below st w → Onward site image r a pc old (λ u. go) c (store program t x st) → Sim.Comes site image r (M.stored (slot_of program t) (parts_in t) x (config a pc old st w) go) c st.world.txn.tape
+  stored_by : (a : Around) (t : Target) (x : Value) (pc : ℕ) (old : List Value) (st : State) (w : TxnState) (go : Config → Next) (c : Config) → Stands a.below st w → Onward site image r a pc old (λ u. go) c (store setting t x st) → Sim.Comes site image r (M.stored (slot_of program t) (parts_in t) x (config a pc old st w) go) c st.world.txn.tape
   stored_by a (LocalAt n) x pc old st w go c b post = post w b
   stored_by a (StaticAt k n) x pc old st w go c b post = post w b
   stored_by a (FieldAt v k n) x pc old st w go c b post = set_by a (field_place program k n) v x pc old st w go c b post
@@ -153,53 +155,53 @@ module _ (site : Site) (image : Image) (r : Trail.Run) (program : Program) where
       collection_at site image r a (Which.List L.Set) v (y ∷ x ∷ []) pc old st w (λ u. go) c b
       (bound (λ u s. (z : TxnState) → Stands a.below s z → Sim.Comes site image r (go (config a pc old s z)) c s.world.txn.tape) (Sim.Stopped site image r a) (on_collection (Which.List L.Set) v (y ∷ x ∷ []) st) (λ u s. Gives tt s) post)
 
-  pub get_at : (a : Around) (t : Target) (k : List Instr) (temps : List Value) (st : State) → Follow site image r a k temps (load program t st) → At a (I.Get (slot_of program t) ∷ k) (pushed (parts_in t) temps) st
+  pub get_at : (a : Around) (t : Target) (k : List Instr) (temps : List Value) (st : State) → Follow site image r a k temps (load setting t st) → At a (I.Get (slot_of program t) ∷ k) (pushed (parts_in t) temps) st
   get_at a t k temps st post =
       Sim.first site image r a (I.Get (slot_of program t)) k (pushed (parts_in t) temps) st (λ pc w b d.
       let c = config a pc (pushed (parts_in t) temps) st w in
-      taken_comes site image r (M.parts_of (slot_of program t)) (parts_in t) temps (λ ps stack. M.loaded (slot_of program t) ps c (λ v e. next e (v ∷ stack))) c st.world.txn.tape (as_many program t)
-      (loaded_by a t pc (pushed (parts_in t) temps) st w (λ v e. next e (v ∷ temps)) c b (onward site image r a pc k temps (pushed (parts_in t) temps) c (load program t st) d post)))
+      taken_comes site image r (M.parts_of (slot_of program t)) (parts_in t) temps (λ ps stack. M.loaded setting.schema (slot_of program t) ps c (λ v e. next e (v ∷ stack))) c st.world.txn.tape (as_many program t)
+      (loaded_by a t pc (pushed (parts_in t) temps) st w (λ v e. next e (v ∷ temps)) c b (onward site image r a pc k temps (pushed (parts_in t) temps) c (load setting t st) d post)))
 
-  fetch_at : (a : Around) (t : Target) (k : List Instr) (temps : List Value) (st : State) → Follow site image r a k (pushed (parts_in t) temps) (load program t st) → At a (I.Fetch (slot_of program t) ∷ k) (pushed (parts_in t) temps) st
+  fetch_at : (a : Around) (t : Target) (k : List Instr) (temps : List Value) (st : State) → Follow site image r a k (pushed (parts_in t) temps) (load setting t st) → At a (I.Fetch (slot_of program t) ∷ k) (pushed (parts_in t) temps) st
   fetch_at a t k temps st post =
       Sim.first site image r a (I.Fetch (slot_of program t)) k (pushed (parts_in t) temps) st (λ pc w b d.
       let c = config a pc (pushed (parts_in t) temps) st w in
-      taken_comes site image r (M.parts_of (slot_of program t)) (parts_in t) temps (λ ps stack. M.loaded (slot_of program t) ps c (λ v e. next e (v ∷ e.top.stack))) c st.world.txn.tape (as_many program t)
-      (loaded_by a t pc (pushed (parts_in t) temps) st w (λ v e. next e (v ∷ e.top.stack)) c b (weaken _ _ (Sim.Stopped site image r a) (load program t st) (λ x s h v y. h.by (pc + 1) v y d) post)))
+      taken_comes site image r (M.parts_of (slot_of program t)) (parts_in t) temps (λ ps stack. M.loaded setting.schema (slot_of program t) ps c (λ v e. next e (v ∷ e.top.stack))) c st.world.txn.tape (as_many program t)
+      (loaded_by a t pc (pushed (parts_in t) temps) st w (λ v e. next e (v ∷ e.top.stack)) c b (weaken _ _ (Sim.Stopped site image r a) (load setting t st) (λ x s h v y. h.by (pc + 1) v y d) post)))
 
-  set_at : (a : Around) (t : Target) (v : Value) (k : List Instr) (temps : List Value) (st : State) → Holds (λ u s. At a k (v ∷ temps) s) (Sim.Stopped site image r a) (store program t v st) → At a (I.Set (slot_of program t) ∷ k) (v ∷ pushed (parts_in t) temps) st
+  set_at : (a : Around) (t : Target) (v : Value) (k : List Instr) (temps : List Value) (st : State) → Holds (λ u s. At a k (v ∷ temps) s) (Sim.Stopped site image r a) (store setting t v st) → At a (I.Set (slot_of program t) ∷ k) (v ∷ pushed (parts_in t) temps) st
   set_at a t v k temps st post =
       Sim.first site image r a (I.Set (slot_of program t)) k (v ∷ pushed (parts_in t) temps) st (λ pc w b d.
       let c = config a pc (v ∷ pushed (parts_in t) temps) st w in
       taken_comes site image r (M.parts_of (slot_of program t)) (parts_in t) temps (λ ps stack. M.stored (slot_of program t) ps v c (λ e. next e (v ∷ stack))) c st.world.txn.tape (as_many program t)
-      (stored_by a t v pc (v ∷ pushed (parts_in t) temps) st w (λ e. next e (v ∷ temps)) c b (weaken _ _ (Sim.Stopped site image r a) (store program t v st) (λ u s h x y. h.by (pc + 1) x y d) post)))
+      (stored_by a t v pc (v ∷ pushed (parts_in t) temps) st w (λ e. next e (v ∷ temps)) c b (weaken _ _ (Sim.Stopped site image r a) (store setting t v st) (λ u s h x y. h.by (pc + 1) x y d) post)))
 
   change_at : (a : Around) (t : Target) (kind : StepKind) (n : Number) (k : List Instr) (temps : List Value) (st : State) →
-      Follow site image r a k temps (bind (load program t st) (λ old s. bind (calc (stepped kind.up n old) s) (λ new s1. bind (store program t new s1) (λ u s2. Gives (cond kind.before new old) s2)))) → At a (I.Change kind n (slot_of program t) ∷ k) (pushed (parts_in t) temps) st
+      Follow site image r a k temps (bind (load setting t st) (λ old s. bind (calc (stepped kind.up n old) s) (λ new s1. bind (store setting t new s1) (λ u s2. Gives (cond kind.before new old) s2)))) → At a (I.Change kind n (slot_of program t) ∷ k) (pushed (parts_in t) temps) st
   change_at a t kind n k temps st post =
       Sim.first site image r a (I.Change kind n (slot_of program t)) k (pushed (parts_in t) temps) st (λ pc w b d.
       let old = pushed (parts_in t) temps in
       let c = config a pc old st w in
       taken_comes site image r (M.parts_of (slot_of program t)) (parts_in t) temps
-      (λ ps stack. M.loaded (slot_of program t) ps c (λ x e. on_calc (stepped kind.up n x) e (λ y. M.stored (slot_of program t) ps y e (λ f. next f (cond kind.before y x ∷ stack))))) c st.world.txn.tape (as_many program t)
+      (λ ps stack. M.loaded setting.schema (slot_of program t) ps c (λ x e. on_calc (stepped kind.up n x) e (λ y. M.stored (slot_of program t) ps y e (λ f. next f (cond kind.before y x ∷ stack))))) c st.world.txn.tape (as_many program t)
       (loaded_by a t pc old st w (λ x e. on_calc (stepped kind.up n x) e (λ y. M.stored (slot_of program t) (parts_in t) y e (λ f. next f (cond kind.before y x ∷ temps)))) c b
-      (weaken _ _ (Sim.Stopped site image r a) (load program t st) (λ x s h v y. by pc d c x s v y (stepped kind.up n x) h)
-      (bound (λ v s. At a k (v ∷ temps) s) (Sim.Stopped site image r a) (load program t st) (λ old s. bind (calc (stepped kind.up n old) s) (λ new s1. bind (store program t new s1) (λ u s2. Gives (cond kind.before new old) s2))) post))))
+      (weaken _ _ (Sim.Stopped site image r a) (load setting t st) (λ x s h v y. by pc d c x s v y (stepped kind.up n x) h)
+      (bound (λ v s. At a k (v ∷ temps) s) (Sim.Stopped site image r a) (load setting t st) (λ old s. bind (calc (stepped kind.up n old) s) (λ new s1. bind (store setting t new s1) (λ u s2. Gives (cond kind.before new old) s2))) post))))
     where
-      by : (pc : ℕ) → drop (pc + 1) (Sim.code image a) ≡ k → (c : Config) (x : Value) (s : State) (v : TxnState) → Stands a.below s v → (o : Calc) → Follow site image r a k temps (bind (calc o s) (λ new s1. bind (store program t new s1) (λ u s2. Gives (cond kind.before new x) s2))) →
+      by : (pc : ℕ) → drop (pc + 1) (Sim.code image a) ≡ k → (c : Config) (x : Value) (s : State) (v : TxnState) → Stands a.below s v → (o : Calc) → Follow site image r a k temps (bind (calc o s) (λ new s1. bind (store setting t new s1) (λ u s2. Gives (cond kind.before new x) s2))) →
           Sim.Comes site image r (on_calc o (config a pc (pushed (parts_in t) temps) s v) (λ y. M.stored (slot_of program t) (parts_in t) y (config a pc (pushed (parts_in t) temps) s v) (λ f. next f (cond kind.before y x ∷ temps)))) c s.world.txn.tape
       by pc d c x s v b (Fails e) h = h.by pc [] v b
       by pc d c x s v b (Val y) h =
           stored_by a t y pc (pushed (parts_in t) temps) s v (λ f. next f (cond kind.before y x ∷ temps)) c b
-          (weaken _ _ (Sim.Stopped site image r a) (store program t y s) (λ u s2 g z q. g.by (pc + 1) z q d)
-          (bound (λ v s. At a k (v ∷ temps) s) (Sim.Stopped site image r a) (store program t y s) (λ u s2. Gives (cond kind.before y x) s2) h))
+          (weaken _ _ (Sim.Stopped site image r a) (store setting t y s) (λ u s2 g z q. g.by (pc + 1) z q d)
+          (bound (λ v s. At a k (v ∷ temps) s) (Sim.Stopped site image r a) (store setting t y s) (λ u s2. Gives (cond kind.before y x) s2) h))
 
 module _ (setting : Setting) (image : Image) (r : Trail.Run) (is : IsImage setting.program image) (again : Again) (follows : F.Follows (site_of setting) image r again) where
   abbrev Here : Around → List Instr → List Value → State → Type 0
   Here a k temps st = Sim.At (site_of setting) image r a k temps st
 
   -- the class of a static is prepared first
-  ready_at : (t : Target) → Sim.Keeps (site_of setting) image r (ready setting.program again t) (ready_of t)
+  ready_at : (t : Target) → Sim.Keeps (site_of setting) image r (ready setting again t) (ready_of t)
   ready_at (LocalAt x) = λ a k temps st post. post
   ready_at (StaticAt c n) = prepared_at setting image r is again follows c
   ready_at (FieldAt v c n) = λ a k temps st post. post
@@ -207,7 +209,7 @@ module _ (setting : Setting) (image : Image) (r : Trail.Run) (is : IsImage setti
   ready_at (ItemAt v w) = λ a k temps st post. post
 
   -- the code of a variable, once its parts are there
-  placed : (f : Where) (p : PlaceCode) → Places (site_of setting) image r setting.program f p → (go : Target → Run) (code : List Instr → Slot → List Instr) →
+  placed : (f : Where) (p : PlaceCode) → Places setting image r f p → (go : Target → Run) (code : List Instr → Slot → List Instr) →
       ((t : Target) (a : Around) (k : List Instr) (temps : List Value) (s : State) → Follow (site_of setting) image r a k temps (go t s) → Here a (code (ready_of t) (slot_of setting.program t) ++ k) (pushed (parts_in t) temps) s) →
       Sim.Puts (site_of setting) image r (λ st. bind (f st) go) (p.parts ++ code p.ready p.slot)
   placed f p h go code then a k temps st post =
@@ -218,16 +220,16 @@ module _ (setting : Setting) (image : Image) (r : Trail.Run) (is : IsImage setti
       (bound (λ v s. Here a k (v ∷ temps) s) (Sim.Stopped (site_of setting) image r a) (f st) go post)))
 
   -- the value of a static
-  pub static_at : (c n : ℕ) → Sim.Puts (site_of setting) image r (got setting.program again (StaticAt c n)) (I.Prepare c ∷ I.Get (S.Static c n) ∷ [])
+  pub static_at : (c n : ℕ) → Sim.Puts (site_of setting) image r (got setting again (StaticAt c n)) (I.Prepare c ∷ I.Get (S.Static c n) ∷ [])
   static_at c n a k temps st post =
       ready_at (StaticAt c n) a (I.Get (S.Static c n) ∷ k) temps st
-      (weaken _ _ (Sim.Stopped (site_of setting) image r a) (ready setting.program again (StaticAt c n) st) (λ u s h. get_at (site_of setting) image r setting.program a (StaticAt c n) k temps s h)
-      (bound (λ v s. Here a k (v ∷ temps) s) (Sim.Stopped (site_of setting) image r a) (ready setting.program again (StaticAt c n) st) (λ u s. load setting.program (StaticAt c n) s) post))
+      (weaken _ _ (Sim.Stopped (site_of setting) image r a) (ready setting again (StaticAt c n) st) (λ u s h. get_at setting image r a (StaticAt c n) k temps s h)
+      (bound (λ v s. Here a k (v ∷ temps) s) (Sim.Stopped (site_of setting) image r a) (ready setting again (StaticAt c n) st) (λ u s. load setting (StaticAt c n) s) post))
 
-  pub assign_at : (f : Where) (p : PlaceCode) → Places (site_of setting) image r setting.program f p → (g : Run) (is : List Instr) → Sim.Puts (site_of setting) image r g is →
-      Sim.Puts (site_of setting) image r (λ st. bind (f st) (assigned setting.program again g)) (p.parts ++ (is ++ (p.ready ++ I.Set p.slot ∷ [])))
+  pub assign_at : (f : Where) (p : PlaceCode) → Places setting image r f p → (g : Run) (is : List Instr) → Sim.Puts (site_of setting) image r g is →
+      Sim.Puts (site_of setting) image r (λ st. bind (f st) (assigned setting again g)) (p.parts ++ (is ++ (p.ready ++ I.Set p.slot ∷ [])))
   assign_at f p h g code q =
-      placed f p h (assigned setting.program again g) (λ x slot. code ++ (x ++ I.Set slot ∷ [])) (λ t a k temps s post.
+      placed f p h (assigned setting again g) (λ x slot. code ++ (x ++ I.Set slot ∷ [])) (λ t a k temps s post.
       let end = Sim.Stopped (site_of setting) image r a in
       let ok : Value → State → Type 0 = λ v s1. Here a k (v ∷ temps) s1 in
       Sim.again_at (site_of setting) image r a code (ready_of t ++ I.Set (slot_of setting.program t) ∷ []) k (pushed (parts_in t) temps) s
@@ -235,17 +237,17 @@ module _ (setting : Setting) (image : Image) (r : Trail.Run) (is : IsImage setti
       (weaken _ _ end (g s) (λ v s1 h1.
       Sim.again_at (site_of setting) image r a (ready_of t) (I.Set (slot_of setting.program t) ∷ []) k (v ∷ pushed (parts_in t) temps) s1
       (ready_at t a (I.Set (slot_of setting.program t) ∷ k) (v ∷ pushed (parts_in t) temps) s1
-      (weaken _ _ end (ready setting.program again t s1) (λ u s2 h2. set_at (site_of setting) image r setting.program a t v k temps s2 (bound ok end (store setting.program t v s2) (λ u1 s3. Gives v s3) h2))
-      (bound ok end (ready setting.program again t s1) (λ u s2. bind (store setting.program t v s2) (λ u1 s3. Gives v s3)) h1))))
-      (bound ok end (g s) (λ v s1. bind (ready setting.program again t s1) (λ u s2. bind (store setting.program t v s2) (λ u1 s3. Gives v s3))) post))))
+      (weaken _ _ end (ready setting again t s1) (λ u s2 h2. set_at setting image r a t v k temps s2 (bound ok end (store setting t v s2) (λ u1 s3. Gives v s3) h2))
+      (bound ok end (ready setting again t s1) (λ u s2. bind (store setting t v s2) (λ u1 s3. Gives v s3)) h1))))
+      (bound ok end (g s) (λ v s1. bind (ready setting again t s1) (λ u s2. bind (store setting t v s2) (λ u1 s3. Gives v s3))) post))))
 
   -- a variable is made ready, and then read
-  got_then : (t : Target) (go : Value → State → Res Value) (s : State) → bind (got setting.program again t s) go ≡ bind (ready setting.program again t s) (λ u s1. bind (load setting.program t s1) go)
-  got_then t go s = bind_bind (ready setting.program again t s) (λ u s1. load setting.program t s1) go
+  got_then : (t : Target) (go : Value → State → Res Value) (s : State) → bind (got setting again t s) go ≡ bind (ready setting again t s) (λ u s1. bind (load setting t s1) go)
+  got_then t go s = bind_bind (ready setting again t s) (λ u s1. load setting t s1) go
 
   -- behind both operands
   abbrev operated : Assignment → Target → Value → Value → Run
-  operated how t old v st = bind (apply how.left how.op how.right old v st) (λ w s. bind (calc (converted how.back w) s) (λ x s1. bind (store setting.program t x s1) (λ u s2. Gives x s2)))
+  operated how t old v st = bind (apply how.left how.op how.right old v st) (λ w s. bind (calc (converted how.back w) s) (λ x s1. bind (store setting t x s1) (λ u s2. Gives x s2)))
 
   both_at : (t : Target) (a : Around) (how : Assignment) (old v : Value) (k : List Instr) (temps : List Value) (st : State) → Follow (site_of setting) image r a k temps (operated how t old v st) →
       Here a (I.Calc how.left how.op how.right ∷ I.Convert how.back ∷ I.Set (slot_of setting.program t) ∷ k) (v ∷ old ∷ pushed (parts_in t) temps) st
@@ -255,37 +257,37 @@ module _ (setting : Setting) (image : Image) (r : Trail.Run) (is : IsImage setti
       apply_at (site_of setting) image r a how.left how.op how.right old v (I.Convert how.back ∷ I.Set (slot_of setting.program t) ∷ k) (pushed (parts_in t) temps) st
       (weaken _ _ end (apply how.left how.op how.right old v st)
       (λ w s h. converted_at (site_of setting) image r how.back a w (I.Set (slot_of setting.program t) ∷ k) (pushed (parts_in t) temps) s
-      (weaken _ _ end (calc (converted how.back w) s) (λ x s1 g. set_at (site_of setting) image r setting.program a t x k temps s1 (bound ok end (store setting.program t x s1) (λ u s2. Gives x s2) g))
-      (bound ok end (calc (converted how.back w) s) (λ x s1. bind (store setting.program t x s1) (λ u s2. Gives x s2)) h)))
-      (bound ok end (apply how.left how.op how.right old v st) (λ w s. bind (calc (converted how.back w) s) (λ x s1. bind (store setting.program t x s1) (λ u s2. Gives x s2))) post))
+      (weaken _ _ end (calc (converted how.back w) s) (λ x s1 g. set_at setting image r a t x k temps s1 (bound ok end (store setting t x s1) (λ u s2. Gives x s2) g))
+      (bound ok end (calc (converted how.back w) s) (λ x s1. bind (store setting t x s1) (λ u s2. Gives x s2)) h)))
+      (bound ok end (apply how.left how.op how.right old v st) (λ w s. bind (calc (converted how.back w) s) (λ x s1. bind (store setting t x s1) (λ u s2. Gives x s2))) post))
 
-  pub step_at : (f : Where) (p : PlaceCode) → Places (site_of setting) image r setting.program f p → (kind : StepKind) (n : Number) →
-      Sim.Puts (site_of setting) image r (λ st. bind (f st) (changed setting.program again kind n)) (p.parts ++ (p.ready ++ I.Change kind n p.slot ∷ []))
+  pub step_at : (f : Where) (p : PlaceCode) → Places setting image r f p → (kind : StepKind) (n : Number) →
+      Sim.Puts (site_of setting) image r (λ st. bind (f st) (changed setting again kind n)) (p.parts ++ (p.ready ++ I.Change kind n p.slot ∷ []))
   step_at f p h kind n =
-      placed f p h (changed setting.program again kind n) (λ x slot. x ++ I.Change kind n slot ∷ []) (λ t a k temps s post.
+      placed f p h (changed setting again kind n) (λ x slot. x ++ I.Change kind n slot ∷ []) (λ t a k temps s post.
       let end = Sim.Stopped (site_of setting) image r a in
       let ok : Value → State → Type 0 = λ v s1. Here a k (v ∷ temps) s1 in
       Sim.again_at (site_of setting) image r a (ready_of t) (I.Change kind n (slot_of setting.program t) ∷ []) k (pushed (parts_in t) temps) s
       (ready_at t a (I.Change kind n (slot_of setting.program t) ∷ k) (pushed (parts_in t) temps) s
-      (weaken _ _ end (ready setting.program again t s) (λ u s1 h1. change_at (site_of setting) image r setting.program a t kind n k temps s1 h1)
-      (bound ok end (ready setting.program again t s) (λ u s1. bind (load setting.program t s1) (λ old s2. bind (calc (stepped kind.up n old) s2) (λ new s3. bind (store setting.program t new s3) (λ u1 s4. Gives (cond kind.before new old) s4))))
-      (subst (λ res. Holds ok end res) (got_then t (λ old s2. bind (calc (stepped kind.up n old) s2) (λ new s3. bind (store setting.program t new s3) (λ u1 s4. Gives (cond kind.before new old) s4))) s) post)))))
+      (weaken _ _ end (ready setting again t s) (λ u s1 h1. change_at setting image r a t kind n k temps s1 h1)
+      (bound ok end (ready setting again t s) (λ u s1. bind (load setting t s1) (λ old s2. bind (calc (stepped kind.up n old) s2) (λ new s3. bind (store setting t new s3) (λ u1 s4. Gives (cond kind.before new old) s4))))
+      (subst (λ res. Holds ok end res) (got_then t (λ old s2. bind (calc (stepped kind.up n old) s2) (λ new s3. bind (store setting t new s3) (λ u1 s4. Gives (cond kind.before new old) s4))) s) post)))))
 
-  pub assign_with_at : (f : Where) (p : PlaceCode) → Places (site_of setting) image r setting.program f p → (how : Assignment) (g : Run) (is : List Instr) → Sim.Puts (site_of setting) image r g is →
-      Sim.Puts (site_of setting) image r (λ st. bind (f st) (assigned_with setting.program again how g)) (p.parts ++ (p.ready ++ I.Fetch p.slot ∷ (is ++ I.Calc how.left how.op how.right ∷ I.Convert how.back ∷ I.Set p.slot ∷ [])))
+  pub assign_with_at : (f : Where) (p : PlaceCode) → Places setting image r f p → (how : Assignment) (g : Run) (is : List Instr) → Sim.Puts (site_of setting) image r g is →
+      Sim.Puts (site_of setting) image r (λ st. bind (f st) (assigned_with setting again how g)) (p.parts ++ (p.ready ++ I.Fetch p.slot ∷ (is ++ I.Calc how.left how.op how.right ∷ I.Convert how.back ∷ I.Set p.slot ∷ [])))
   assign_with_at f p h how g code q =
-      placed f p h (assigned_with setting.program again how g) (λ x slot. x ++ I.Fetch slot ∷ (code ++ I.Calc how.left how.op how.right ∷ I.Convert how.back ∷ I.Set slot ∷ [])) (λ t a k temps s post.
+      placed f p h (assigned_with setting again how g) (λ x slot. x ++ I.Fetch slot ∷ (code ++ I.Calc how.left how.op how.right ∷ I.Convert how.back ∷ I.Set slot ∷ [])) (λ t a k temps s post.
       let end = Sim.Stopped (site_of setting) image r a in
       let ok : Value → State → Type 0 = λ v s1. Here a k (v ∷ temps) s1 in
       let last : List Instr = I.Calc how.left how.op how.right ∷ I.Convert how.back ∷ I.Set (slot_of setting.program t) ∷ [] in
       Sim.again_at (site_of setting) image r a (ready_of t) (I.Fetch (slot_of setting.program t) ∷ (code ++ last)) k (pushed (parts_in t) temps) s
       (ready_at t a (I.Fetch (slot_of setting.program t) ∷ ((code ++ last) ++ k)) (pushed (parts_in t) temps) s
-      (weaken _ _ end (ready setting.program again t s) (λ u s1 h1.
-      fetch_at (site_of setting) image r setting.program a t ((code ++ last) ++ k) temps s1
-      (weaken _ _ end (load setting.program t s1) (λ old s2 h2.
+      (weaken _ _ end (ready setting again t s) (λ u s1 h1.
+      fetch_at setting image r a t ((code ++ last) ++ k) temps s1
+      (weaken _ _ end (load setting t s1) (λ old s2 h2.
       Sim.again_at (site_of setting) image r a code last k (old ∷ pushed (parts_in t) temps) s2
       (q a (last ++ k) (old ∷ pushed (parts_in t) temps) s2
       (weaken _ _ end (g s2) (λ v s3 h3. both_at t a how old v k temps s3 h3) (bound ok end (g s2) (λ v s3. operated how t old v s3) h2))))
-      (bound ok end (load setting.program t s1) (λ old s2. bind (g s2) (λ v s3. operated how t old v s3)) h1)))
-      (bound ok end (ready setting.program again t s) (λ u s1. bind (load setting.program t s1) (λ old s2. bind (g s2) (λ v s3. operated how t old v s3)))
+      (bound ok end (load setting t s1) (λ old s2. bind (g s2) (λ v s3. operated how t old v s3)) h1)))
+      (bound ok end (ready setting again t s) (λ u s1. bind (load setting t s1) (λ old s2. bind (g s2) (λ v s3. operated how t old v s3)))
       (subst (λ res. Holds ok end res) (got_then t (λ old s2. bind (g s2) (λ v s3. operated how t old v s3)) s) post)))))

@@ -28,8 +28,9 @@ use Rattle.stack_code.specs.Machine
 use Rattle.program_simulation.proofs.Classes.{IsImage, name_in}
 use Rattle.typed_program.specs.declared.unit.TypedClass.{TypedClass}
 use Rattle.apex_meaning.specs.Expressions.{Entry, all_entries, cast_if, cast_to, say}
-use Rattle.apex_meaning.specs.Meanings.{Again, Run}
+use Rattle.apex_meaning.specs.Meanings.{Again, Run, calc}
 use Rattle.apex_meaning.specs.Operations.{text_made}
+use Rattle.apex_meaning.specs.Records.{children_in, only, parent_in}
 use Rattle.limit_meter.specs.Charges.{counter}
 use Rattle.save_meaning.proofs.Holding.{bound, weaken}
 use Rattle.save_meaning.specs.Results.{Gives, bind, Holds}
@@ -51,7 +52,7 @@ use Rattle.stack_code.specs.declared.image.Image.{Image}
 use Rattle.stack_code.specs.declared.state.Config.{Config}
 use Rattle.program_simulation.proofs.Simulates as Sim
 use Rattle.program_simulation.proofs.Simulates.{Around, Stands, config}
-use Rattle.program_simulation.proofs.OfValues.{Follow, text_at}
+use Rattle.program_simulation.proofs.OfValues.{Follow, calc_at, text_at}
 use Rattle.stack_code.specs.Code.{fields_of, joined, pairs_code}
 use Rattle.program_simulation.proofs.OfLists.{pushed, taken_comes, flat, flat_length, flat_pairs, names, values, as_many, paired_again, AllEnter, entries_at, AllFill, pairs_at}
 
@@ -147,6 +148,19 @@ module _ (site : Site) (image : Image) (r : Trail.Run) where
           Sim.charge_at site image r a K.Alloc (units_of None o) st pc (v ∷ temps) w _ (config a pc (v ∷ temps) st w) b
           (weaken _ _ (Sim.Stopped site image r a) (charge K.Alloc (units_of None o) st) (λ u s h x y. done_at a (things_done 0 s.world.heap o) pc (v ∷ temps) s x _ (config a pc (v ∷ temps) st w) y (onward a pc k temps (v ∷ temps) (config a pc (v ∷ temps) st w) (done (things_done 0 s.world.heap o) s) d h))
           (bound (λ x s. At a k (x ∷ temps) s) (Sim.Stopped site image r a) (charge K.Alloc (units_of None o) st) (λ u s. done (things_done 0 s.world.heap o) s) post))
+
+  -- ---- records and what a query gave with them
+
+  pub parent_at : (field : ℕ) (goes_on : Bool) → Sim.Takes site image r (λ v st. calc (parent_in site.schema field goes_on v st.world.heap) st) (I.Parent field goes_on ∷ [])
+  parent_at field goes_on a v k temps st post =
+      Sim.first site image r a (I.Parent field goes_on) k (v ∷ temps) st (λ pc w b d. calc_at site image r a (parent_in site.schema field goes_on v st.world.heap) k temps (v ∷ temps) st pc w b d post)
+
+  pub children_at : (object field : ℕ) (goes_on : Bool) → Sim.Takes site image r (λ v st. calc (children_in site.schema object field goes_on v st.world.heap) st) (I.Children object field goes_on ∷ [])
+  children_at object field goes_on a v k temps st post =
+      Sim.first site image r a (I.Children object field goes_on) k (v ∷ temps) st (λ pc w b d. calc_at site image r a (children_in site.schema object field goes_on v st.world.heap) k temps (v ∷ temps) st pc w b d post)
+
+  pub only_at : Sim.Takes site image r (λ v st. calc (only v st.world.heap) st) (I.Only ∷ [])
+  only_at a v k temps st post = Sim.first site image r a I.Only k (v ∷ temps) st (λ pc w b d. calc_at site image r a (only v st.world.heap) k temps (v ∷ temps) st pc w b d post)
 
   -- ---- methods of primitives, of exceptions and of the platform
 

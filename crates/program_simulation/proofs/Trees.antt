@@ -15,10 +15,16 @@ use Rattle.apex_meaning.specs.Meanings.{Again, Run, Behind, all_of, calc, test, 
 use Rattle.apex_meaning.specs.Operations.{operated, chained}
 use Rattle.apex_meaning.specs.Places.{FieldAt, CellAt, ItemAt}
 use Rattle.apex_meaning.specs.Preparing.{new_instance}
+use Rattle.apex_meaning.specs.Records.{only}
+use Rattle.query_records.specs.Shapes.{queried}
+use Rattle.query_records.specs.declared.bind.BindKind.{BindKind}
+use Rattle.query_records.specs.declared.bind.BindKind.TheVariants.{One, Many}
 use Rattle.save_meaning.proofs.Holding.{bind_bind, bound, weaken}
 use Rattle.save_meaning.specs.Results.{Gives, bind}
+use Rattle.static_types.specs.declared.kind.Primitive.TheVariants as Primitive
 use Rattle.tenant_trails.specs.Runs as Trail
 use Rattle.txn_heap.specs.declared.thing.Value.{Value}
+use Rattle.typed_program.specs.declared.expr.CollectionKind.TheVariants as Kinds
 use Rattle.typed_program.specs.declared.expr.Conversion.{Conversion}
 use Rattle.typed_program.specs.declared.expr.Conversion.TheVariants as Conv
 use Rattle.value_operators.specs.Operators.{converted, negated}
@@ -30,9 +36,9 @@ use Rattle.typed_program.specs.declared.expr.TypedPlace.{TypedPlace}
 use Rattle.typed_program.specs.declared.expr.TypedItem.{TypedItem}
 use Rattle.typed_program.specs.declared.expr.TypedOperand.{TypedOperand}
 use Rattle.typed_program.specs.declared.expr.TypedPair.{TypedPair}
-use Rattle.typed_program.specs.declared.expr.TypedBind.TheOpen.{TypedExpr-F, TypedNew-F, TypedPart-F, TypedPlace-F, TypedItem-F, TypedOperand-F, TypedPair-F}
-use Rattle.typed_program.specs.declared.expr.TypedBind.TheViews.{roll-TypedExpr, roll-TypedNew, roll-TypedPart, roll-TypedPlace, roll-TypedItem, roll-TypedOperand, roll-TypedPair}
-use Rattle.typed_program.specs.declared.expr.TypedBind.TheFolds.{fold-TypedBind, fold-TypedExpr, fold-TypedNew, fold-TypedPart, fold-TypedPlace, fold-TypedItem, fold-TypedOperand, fold-TypedPair, fold-roll-TypedExpr, fold-roll-TypedNew, fold-roll-TypedPart, fold-roll-TypedPlace, fold-roll-TypedItem, fold-roll-TypedOperand, fold-roll-TypedPair, map-TypedExpr, map-TypedNew, map-TypedPart, map-TypedPlace, map-TypedItem, map-TypedOperand, map-TypedPair, ind-TypedExpr}
+use Rattle.typed_program.specs.declared.expr.TypedBind.TheOpen.{TypedBind-F, TypedExpr-F, TypedNew-F, TypedPart-F, TypedPlace-F, TypedItem-F, TypedOperand-F, TypedPair-F}
+use Rattle.typed_program.specs.declared.expr.TypedBind.TheViews.{roll-TypedBind, roll-TypedExpr, roll-TypedNew, roll-TypedPart, roll-TypedPlace, roll-TypedItem, roll-TypedOperand, roll-TypedPair}
+use Rattle.typed_program.specs.declared.expr.TypedBind.TheFolds.{fold-TypedBind, fold-TypedExpr, fold-TypedNew, fold-TypedPart, fold-TypedPlace, fold-TypedItem, fold-TypedOperand, fold-TypedPair, fold-roll-TypedBind, fold-roll-TypedExpr, fold-roll-TypedNew, fold-roll-TypedPart, fold-roll-TypedPlace, fold-roll-TypedItem, fold-roll-TypedOperand, fold-roll-TypedPair, map-TypedBind, map-TypedExpr, map-TypedNew, map-TypedPart, map-TypedPlace, map-TypedItem, map-TypedOperand, map-TypedPair, ind-TypedExpr}
 use Rattle.stack_code.specs.Code as Code
 use Rattle.stack_code.specs.Code.{Instrs, PlaceCode, joined}
 use Rattle.stack_code.specs.declared.code.Instr.TheVariants as I
@@ -57,62 +63,62 @@ module _ (setting : Setting) (image : Image) (r : Trail.Run) (is : IsImage setti
   Takes g code = Sim.Takes (site_of setting) image r g code
 
   abbrev Places : Where → PlaceCode → Type 0
-  Places f p = OfPlaces.Places (site_of setting) image r setting.program f p
+  Places f p = OfPlaces.Places setting image r f p
 
   -- ---- what each part does, and its code
 
-  abbrev run_bind : TypedBind → Run
-  run_bind = fold-TypedBind Run Run Run Behind Where Entry Behind (ℕ × Run) (E.bind_step setting again names) (E.expr_step setting again names) (E.new_step setting again) (E.part_step setting again) (E.place_step setting again) (E.item_step setting again names) (E.operand_step setting again names) (E.pair_step setting again names)
+  abbrev run_bind : TypedBind → E.Given
+  run_bind = fold-TypedBind E.Given Run Run Behind Where Entry Behind (ℕ × Run) (E.bind_step setting again names) (E.expr_step setting again names) (E.new_step setting again) (E.part_step setting again) (E.place_step setting again) (E.item_step setting again names) (E.operand_step setting again names) (E.pair_step setting again names)
 
-  abbrev code_bind : TypedBind → Instrs
-  code_bind = fold-TypedBind Instrs Instrs Instrs Instrs PlaceCode Instrs Instrs (ℕ × Instrs) Code.bind_step Code.expr_step Code.new_step (Code.part_step setting.program) (Code.place_step setting.program) Code.item_step Code.operand_step Code.pair_step
+  abbrev code_bind : TypedBind → Code.Given
+  code_bind = fold-TypedBind Code.Given Instrs Instrs Instrs PlaceCode Instrs Instrs (ℕ × Instrs) Code.bind_step Code.expr_step Code.new_step (Code.part_step setting.program) (Code.place_step setting.program) Code.item_step Code.operand_step Code.pair_step
 
   abbrev run_expr : TypedExpr → Run
-  run_expr = fold-TypedExpr Run Run Run Behind Where Entry Behind (ℕ × Run) (E.bind_step setting again names) (E.expr_step setting again names) (E.new_step setting again) (E.part_step setting again) (E.place_step setting again) (E.item_step setting again names) (E.operand_step setting again names) (E.pair_step setting again names)
+  run_expr = fold-TypedExpr E.Given Run Run Behind Where Entry Behind (ℕ × Run) (E.bind_step setting again names) (E.expr_step setting again names) (E.new_step setting again) (E.part_step setting again) (E.place_step setting again) (E.item_step setting again names) (E.operand_step setting again names) (E.pair_step setting again names)
 
   abbrev code_expr : TypedExpr → Instrs
-  code_expr = fold-TypedExpr Instrs Instrs Instrs Instrs PlaceCode Instrs Instrs (ℕ × Instrs) Code.bind_step Code.expr_step Code.new_step (Code.part_step setting.program) (Code.place_step setting.program) Code.item_step Code.operand_step Code.pair_step
+  code_expr = fold-TypedExpr Code.Given Instrs Instrs Instrs PlaceCode Instrs Instrs (ℕ × Instrs) Code.bind_step Code.expr_step Code.new_step (Code.part_step setting.program) (Code.place_step setting.program) Code.item_step Code.operand_step Code.pair_step
 
   abbrev run_new : TypedNew → Run
-  run_new = fold-TypedNew Run Run Run Behind Where Entry Behind (ℕ × Run) (E.bind_step setting again names) (E.expr_step setting again names) (E.new_step setting again) (E.part_step setting again) (E.place_step setting again) (E.item_step setting again names) (E.operand_step setting again names) (E.pair_step setting again names)
+  run_new = fold-TypedNew E.Given Run Run Behind Where Entry Behind (ℕ × Run) (E.bind_step setting again names) (E.expr_step setting again names) (E.new_step setting again) (E.part_step setting again) (E.place_step setting again) (E.item_step setting again names) (E.operand_step setting again names) (E.pair_step setting again names)
 
   abbrev code_new : TypedNew → Instrs
-  code_new = fold-TypedNew Instrs Instrs Instrs Instrs PlaceCode Instrs Instrs (ℕ × Instrs) Code.bind_step Code.expr_step Code.new_step (Code.part_step setting.program) (Code.place_step setting.program) Code.item_step Code.operand_step Code.pair_step
+  code_new = fold-TypedNew Code.Given Instrs Instrs Instrs PlaceCode Instrs Instrs (ℕ × Instrs) Code.bind_step Code.expr_step Code.new_step (Code.part_step setting.program) (Code.place_step setting.program) Code.item_step Code.operand_step Code.pair_step
 
   abbrev run_part : TypedPart → Behind
-  run_part = fold-TypedPart Run Run Run Behind Where Entry Behind (ℕ × Run) (E.bind_step setting again names) (E.expr_step setting again names) (E.new_step setting again) (E.part_step setting again) (E.place_step setting again) (E.item_step setting again names) (E.operand_step setting again names) (E.pair_step setting again names)
+  run_part = fold-TypedPart E.Given Run Run Behind Where Entry Behind (ℕ × Run) (E.bind_step setting again names) (E.expr_step setting again names) (E.new_step setting again) (E.part_step setting again) (E.place_step setting again) (E.item_step setting again names) (E.operand_step setting again names) (E.pair_step setting again names)
 
   abbrev code_part : TypedPart → Instrs
-  code_part = fold-TypedPart Instrs Instrs Instrs Instrs PlaceCode Instrs Instrs (ℕ × Instrs) Code.bind_step Code.expr_step Code.new_step (Code.part_step setting.program) (Code.place_step setting.program) Code.item_step Code.operand_step Code.pair_step
+  code_part = fold-TypedPart Code.Given Instrs Instrs Instrs PlaceCode Instrs Instrs (ℕ × Instrs) Code.bind_step Code.expr_step Code.new_step (Code.part_step setting.program) (Code.place_step setting.program) Code.item_step Code.operand_step Code.pair_step
 
   abbrev run_place : TypedPlace → Where
-  run_place = fold-TypedPlace Run Run Run Behind Where Entry Behind (ℕ × Run) (E.bind_step setting again names) (E.expr_step setting again names) (E.new_step setting again) (E.part_step setting again) (E.place_step setting again) (E.item_step setting again names) (E.operand_step setting again names) (E.pair_step setting again names)
+  run_place = fold-TypedPlace E.Given Run Run Behind Where Entry Behind (ℕ × Run) (E.bind_step setting again names) (E.expr_step setting again names) (E.new_step setting again) (E.part_step setting again) (E.place_step setting again) (E.item_step setting again names) (E.operand_step setting again names) (E.pair_step setting again names)
 
   abbrev code_place : TypedPlace → PlaceCode
-  code_place = fold-TypedPlace Instrs Instrs Instrs Instrs PlaceCode Instrs Instrs (ℕ × Instrs) Code.bind_step Code.expr_step Code.new_step (Code.part_step setting.program) (Code.place_step setting.program) Code.item_step Code.operand_step Code.pair_step
+  code_place = fold-TypedPlace Code.Given Instrs Instrs Instrs PlaceCode Instrs Instrs (ℕ × Instrs) Code.bind_step Code.expr_step Code.new_step (Code.part_step setting.program) (Code.place_step setting.program) Code.item_step Code.operand_step Code.pair_step
 
   abbrev run_item : TypedItem → Entry
-  run_item = fold-TypedItem Run Run Run Behind Where Entry Behind (ℕ × Run) (E.bind_step setting again names) (E.expr_step setting again names) (E.new_step setting again) (E.part_step setting again) (E.place_step setting again) (E.item_step setting again names) (E.operand_step setting again names) (E.pair_step setting again names)
+  run_item = fold-TypedItem E.Given Run Run Behind Where Entry Behind (ℕ × Run) (E.bind_step setting again names) (E.expr_step setting again names) (E.new_step setting again) (E.part_step setting again) (E.place_step setting again) (E.item_step setting again names) (E.operand_step setting again names) (E.pair_step setting again names)
 
   abbrev code_item : TypedItem → Instrs
-  code_item = fold-TypedItem Instrs Instrs Instrs Instrs PlaceCode Instrs Instrs (ℕ × Instrs) Code.bind_step Code.expr_step Code.new_step (Code.part_step setting.program) (Code.place_step setting.program) Code.item_step Code.operand_step Code.pair_step
+  code_item = fold-TypedItem Code.Given Instrs Instrs Instrs PlaceCode Instrs Instrs (ℕ × Instrs) Code.bind_step Code.expr_step Code.new_step (Code.part_step setting.program) (Code.place_step setting.program) Code.item_step Code.operand_step Code.pair_step
 
   abbrev run_operand : TypedOperand → Behind
-  run_operand = fold-TypedOperand Run Run Run Behind Where Entry Behind (ℕ × Run) (E.bind_step setting again names) (E.expr_step setting again names) (E.new_step setting again) (E.part_step setting again) (E.place_step setting again) (E.item_step setting again names) (E.operand_step setting again names) (E.pair_step setting again names)
+  run_operand = fold-TypedOperand E.Given Run Run Behind Where Entry Behind (ℕ × Run) (E.bind_step setting again names) (E.expr_step setting again names) (E.new_step setting again) (E.part_step setting again) (E.place_step setting again) (E.item_step setting again names) (E.operand_step setting again names) (E.pair_step setting again names)
 
   abbrev code_operand : TypedOperand → Instrs
-  code_operand = fold-TypedOperand Instrs Instrs Instrs Instrs PlaceCode Instrs Instrs (ℕ × Instrs) Code.bind_step Code.expr_step Code.new_step (Code.part_step setting.program) (Code.place_step setting.program) Code.item_step Code.operand_step Code.pair_step
+  code_operand = fold-TypedOperand Code.Given Instrs Instrs Instrs PlaceCode Instrs Instrs (ℕ × Instrs) Code.bind_step Code.expr_step Code.new_step (Code.part_step setting.program) (Code.place_step setting.program) Code.item_step Code.operand_step Code.pair_step
 
   abbrev run_pair : TypedPair → ℕ × Run
-  run_pair = fold-TypedPair Run Run Run Behind Where Entry Behind (ℕ × Run) (E.bind_step setting again names) (E.expr_step setting again names) (E.new_step setting again) (E.part_step setting again) (E.place_step setting again) (E.item_step setting again names) (E.operand_step setting again names) (E.pair_step setting again names)
+  run_pair = fold-TypedPair E.Given Run Run Behind Where Entry Behind (ℕ × Run) (E.bind_step setting again names) (E.expr_step setting again names) (E.new_step setting again) (E.part_step setting again) (E.place_step setting again) (E.item_step setting again names) (E.operand_step setting again names) (E.pair_step setting again names)
 
   abbrev code_pair : TypedPair → ℕ × Instrs
-  code_pair = fold-TypedPair Instrs Instrs Instrs Instrs PlaceCode Instrs Instrs (ℕ × Instrs) Code.bind_step Code.expr_step Code.new_step (Code.part_step setting.program) (Code.place_step setting.program) Code.item_step Code.operand_step Code.pair_step
+  code_pair = fold-TypedPair Code.Given Instrs Instrs Instrs PlaceCode Instrs Instrs (ℕ × Instrs) Code.bind_step Code.expr_step Code.new_step (Code.part_step setting.program) (Code.place_step setting.program) Code.item_step Code.operand_step Code.pair_step
 
   -- ---- what holds of each part
 
   abbrev OfBind : TypedBind → Type 0
-  OfBind x = Unit {0}
+  OfBind x = ((run_bind x).0 ≡ (code_bind x).0) × Puts (run_bind x).1 (code_bind x).1
 
   abbrev SuchBind : Type 0
   SuchBind = (x : TypedBind) × OfBind x
@@ -166,6 +172,12 @@ module _ (setting : Setting) (image : Image) (r : Trail.Run) (is : IsImage setti
   abbrev expr_in : ExprLayer → TypedExpr
   expr_in y = roll-TypedExpr (map-TypedExpr SuchBind SuchExpr SuchNew SuchPart SuchPlace SuchItem SuchOperand SuchPair TypedBind TypedExpr TypedNew TypedPart TypedPlace TypedItem TypedOperand TypedPair (λ e. e.0) (λ e. e.0) (λ e. e.0) (λ e. e.0) (λ e. e.0) (λ e. e.0) (λ e. e.0) (λ e. e.0) y)
 
+  abbrev BindLayer : Type 0
+  BindLayer = TypedBind-F SuchBind SuchExpr SuchNew SuchPart SuchPlace SuchItem SuchOperand SuchPair
+
+  abbrev bind_in : BindLayer → TypedBind
+  bind_in y = roll-TypedBind (map-TypedBind SuchBind SuchExpr SuchNew SuchPart SuchPlace SuchItem SuchOperand SuchPair TypedBind TypedExpr TypedNew TypedPart TypedPlace TypedItem TypedOperand TypedPair (λ e. e.0) (λ e. e.0) (λ e. e.0) (λ e. e.0) (λ e. e.0) (λ e. e.0) (λ e. e.0) (λ e. e.0) y)
+
   abbrev NewLayer : Type 0
   NewLayer = TypedNew-F SuchBind SuchExpr SuchNew SuchPart SuchPlace SuchItem SuchOperand SuchPair
 
@@ -204,89 +216,101 @@ module _ (setting : Setting) (image : Image) (r : Trail.Run) (is : IsImage setti
 
   -- ---- one layer: its step is what it does, and its step is its code
 
-  abbrev runs_expr : TypedExpr-F TypedBind TypedExpr TypedNew TypedPart TypedPlace TypedItem TypedOperand TypedPair → TypedExpr-F Run Run Run Behind Where Entry Behind (ℕ × Run)
-  runs_expr z = map-TypedExpr TypedBind TypedExpr TypedNew TypedPart TypedPlace TypedItem TypedOperand TypedPair Run Run Run Behind Where Entry Behind (ℕ × Run) run_bind run_expr run_new run_part run_place run_item run_operand run_pair z
+  abbrev runs_bind : TypedBind-F TypedBind TypedExpr TypedNew TypedPart TypedPlace TypedItem TypedOperand TypedPair → TypedBind-F E.Given Run Run Behind Where Entry Behind (ℕ × Run)
+  runs_bind z = map-TypedBind TypedBind TypedExpr TypedNew TypedPart TypedPlace TypedItem TypedOperand TypedPair E.Given Run Run Behind Where Entry Behind (ℕ × Run) run_bind run_expr run_new run_part run_place run_item run_operand run_pair z
 
-  abbrev codes_expr : TypedExpr-F TypedBind TypedExpr TypedNew TypedPart TypedPlace TypedItem TypedOperand TypedPair → TypedExpr-F Instrs Instrs Instrs Instrs PlaceCode Instrs Instrs (ℕ × Instrs)
-  codes_expr z = map-TypedExpr TypedBind TypedExpr TypedNew TypedPart TypedPlace TypedItem TypedOperand TypedPair Instrs Instrs Instrs Instrs PlaceCode Instrs Instrs (ℕ × Instrs) code_bind code_expr code_new code_part code_place code_item code_operand code_pair z
+  abbrev codes_bind : TypedBind-F TypedBind TypedExpr TypedNew TypedPart TypedPlace TypedItem TypedOperand TypedPair → TypedBind-F Code.Given Instrs Instrs Instrs PlaceCode Instrs Instrs (ℕ × Instrs)
+  codes_bind z = map-TypedBind TypedBind TypedExpr TypedNew TypedPart TypedPlace TypedItem TypedOperand TypedPair Code.Given Instrs Instrs Instrs PlaceCode Instrs Instrs (ℕ × Instrs) code_bind code_expr code_new code_part code_place code_item code_operand code_pair z
 
-  abbrev runs_new : TypedNew-F TypedBind TypedExpr TypedNew TypedPart TypedPlace TypedItem TypedOperand TypedPair → TypedNew-F Run Run Run Behind Where Entry Behind (ℕ × Run)
-  runs_new z = map-TypedNew TypedBind TypedExpr TypedNew TypedPart TypedPlace TypedItem TypedOperand TypedPair Run Run Run Behind Where Entry Behind (ℕ × Run) run_bind run_expr run_new run_part run_place run_item run_operand run_pair z
+  abbrev runs_expr : TypedExpr-F TypedBind TypedExpr TypedNew TypedPart TypedPlace TypedItem TypedOperand TypedPair → TypedExpr-F E.Given Run Run Behind Where Entry Behind (ℕ × Run)
+  runs_expr z = map-TypedExpr TypedBind TypedExpr TypedNew TypedPart TypedPlace TypedItem TypedOperand TypedPair E.Given Run Run Behind Where Entry Behind (ℕ × Run) run_bind run_expr run_new run_part run_place run_item run_operand run_pair z
 
-  abbrev codes_new : TypedNew-F TypedBind TypedExpr TypedNew TypedPart TypedPlace TypedItem TypedOperand TypedPair → TypedNew-F Instrs Instrs Instrs Instrs PlaceCode Instrs Instrs (ℕ × Instrs)
-  codes_new z = map-TypedNew TypedBind TypedExpr TypedNew TypedPart TypedPlace TypedItem TypedOperand TypedPair Instrs Instrs Instrs Instrs PlaceCode Instrs Instrs (ℕ × Instrs) code_bind code_expr code_new code_part code_place code_item code_operand code_pair z
+  abbrev codes_expr : TypedExpr-F TypedBind TypedExpr TypedNew TypedPart TypedPlace TypedItem TypedOperand TypedPair → TypedExpr-F Code.Given Instrs Instrs Instrs PlaceCode Instrs Instrs (ℕ × Instrs)
+  codes_expr z = map-TypedExpr TypedBind TypedExpr TypedNew TypedPart TypedPlace TypedItem TypedOperand TypedPair Code.Given Instrs Instrs Instrs PlaceCode Instrs Instrs (ℕ × Instrs) code_bind code_expr code_new code_part code_place code_item code_operand code_pair z
 
-  abbrev runs_part : TypedPart-F TypedBind TypedExpr TypedNew TypedPart TypedPlace TypedItem TypedOperand TypedPair → TypedPart-F Run Run Run Behind Where Entry Behind (ℕ × Run)
-  runs_part z = map-TypedPart TypedBind TypedExpr TypedNew TypedPart TypedPlace TypedItem TypedOperand TypedPair Run Run Run Behind Where Entry Behind (ℕ × Run) run_bind run_expr run_new run_part run_place run_item run_operand run_pair z
+  abbrev runs_new : TypedNew-F TypedBind TypedExpr TypedNew TypedPart TypedPlace TypedItem TypedOperand TypedPair → TypedNew-F E.Given Run Run Behind Where Entry Behind (ℕ × Run)
+  runs_new z = map-TypedNew TypedBind TypedExpr TypedNew TypedPart TypedPlace TypedItem TypedOperand TypedPair E.Given Run Run Behind Where Entry Behind (ℕ × Run) run_bind run_expr run_new run_part run_place run_item run_operand run_pair z
 
-  abbrev codes_part : TypedPart-F TypedBind TypedExpr TypedNew TypedPart TypedPlace TypedItem TypedOperand TypedPair → TypedPart-F Instrs Instrs Instrs Instrs PlaceCode Instrs Instrs (ℕ × Instrs)
-  codes_part z = map-TypedPart TypedBind TypedExpr TypedNew TypedPart TypedPlace TypedItem TypedOperand TypedPair Instrs Instrs Instrs Instrs PlaceCode Instrs Instrs (ℕ × Instrs) code_bind code_expr code_new code_part code_place code_item code_operand code_pair z
+  abbrev codes_new : TypedNew-F TypedBind TypedExpr TypedNew TypedPart TypedPlace TypedItem TypedOperand TypedPair → TypedNew-F Code.Given Instrs Instrs Instrs PlaceCode Instrs Instrs (ℕ × Instrs)
+  codes_new z = map-TypedNew TypedBind TypedExpr TypedNew TypedPart TypedPlace TypedItem TypedOperand TypedPair Code.Given Instrs Instrs Instrs PlaceCode Instrs Instrs (ℕ × Instrs) code_bind code_expr code_new code_part code_place code_item code_operand code_pair z
 
-  abbrev runs_place : TypedPlace-F TypedBind TypedExpr TypedNew TypedPart TypedPlace TypedItem TypedOperand TypedPair → TypedPlace-F Run Run Run Behind Where Entry Behind (ℕ × Run)
-  runs_place z = map-TypedPlace TypedBind TypedExpr TypedNew TypedPart TypedPlace TypedItem TypedOperand TypedPair Run Run Run Behind Where Entry Behind (ℕ × Run) run_bind run_expr run_new run_part run_place run_item run_operand run_pair z
+  abbrev runs_part : TypedPart-F TypedBind TypedExpr TypedNew TypedPart TypedPlace TypedItem TypedOperand TypedPair → TypedPart-F E.Given Run Run Behind Where Entry Behind (ℕ × Run)
+  runs_part z = map-TypedPart TypedBind TypedExpr TypedNew TypedPart TypedPlace TypedItem TypedOperand TypedPair E.Given Run Run Behind Where Entry Behind (ℕ × Run) run_bind run_expr run_new run_part run_place run_item run_operand run_pair z
 
-  abbrev codes_place : TypedPlace-F TypedBind TypedExpr TypedNew TypedPart TypedPlace TypedItem TypedOperand TypedPair → TypedPlace-F Instrs Instrs Instrs Instrs PlaceCode Instrs Instrs (ℕ × Instrs)
-  codes_place z = map-TypedPlace TypedBind TypedExpr TypedNew TypedPart TypedPlace TypedItem TypedOperand TypedPair Instrs Instrs Instrs Instrs PlaceCode Instrs Instrs (ℕ × Instrs) code_bind code_expr code_new code_part code_place code_item code_operand code_pair z
+  abbrev codes_part : TypedPart-F TypedBind TypedExpr TypedNew TypedPart TypedPlace TypedItem TypedOperand TypedPair → TypedPart-F Code.Given Instrs Instrs Instrs PlaceCode Instrs Instrs (ℕ × Instrs)
+  codes_part z = map-TypedPart TypedBind TypedExpr TypedNew TypedPart TypedPlace TypedItem TypedOperand TypedPair Code.Given Instrs Instrs Instrs PlaceCode Instrs Instrs (ℕ × Instrs) code_bind code_expr code_new code_part code_place code_item code_operand code_pair z
 
-  abbrev runs_item : TypedItem-F TypedBind TypedExpr TypedNew TypedPart TypedPlace TypedItem TypedOperand TypedPair → TypedItem-F Run Run Run Behind Where Entry Behind (ℕ × Run)
-  runs_item z = map-TypedItem TypedBind TypedExpr TypedNew TypedPart TypedPlace TypedItem TypedOperand TypedPair Run Run Run Behind Where Entry Behind (ℕ × Run) run_bind run_expr run_new run_part run_place run_item run_operand run_pair z
+  abbrev runs_place : TypedPlace-F TypedBind TypedExpr TypedNew TypedPart TypedPlace TypedItem TypedOperand TypedPair → TypedPlace-F E.Given Run Run Behind Where Entry Behind (ℕ × Run)
+  runs_place z = map-TypedPlace TypedBind TypedExpr TypedNew TypedPart TypedPlace TypedItem TypedOperand TypedPair E.Given Run Run Behind Where Entry Behind (ℕ × Run) run_bind run_expr run_new run_part run_place run_item run_operand run_pair z
 
-  abbrev codes_item : TypedItem-F TypedBind TypedExpr TypedNew TypedPart TypedPlace TypedItem TypedOperand TypedPair → TypedItem-F Instrs Instrs Instrs Instrs PlaceCode Instrs Instrs (ℕ × Instrs)
-  codes_item z = map-TypedItem TypedBind TypedExpr TypedNew TypedPart TypedPlace TypedItem TypedOperand TypedPair Instrs Instrs Instrs Instrs PlaceCode Instrs Instrs (ℕ × Instrs) code_bind code_expr code_new code_part code_place code_item code_operand code_pair z
+  abbrev codes_place : TypedPlace-F TypedBind TypedExpr TypedNew TypedPart TypedPlace TypedItem TypedOperand TypedPair → TypedPlace-F Code.Given Instrs Instrs Instrs PlaceCode Instrs Instrs (ℕ × Instrs)
+  codes_place z = map-TypedPlace TypedBind TypedExpr TypedNew TypedPart TypedPlace TypedItem TypedOperand TypedPair Code.Given Instrs Instrs Instrs PlaceCode Instrs Instrs (ℕ × Instrs) code_bind code_expr code_new code_part code_place code_item code_operand code_pair z
 
-  abbrev runs_operand : TypedOperand-F TypedBind TypedExpr TypedNew TypedPart TypedPlace TypedItem TypedOperand TypedPair → TypedOperand-F Run Run Run Behind Where Entry Behind (ℕ × Run)
-  runs_operand z = map-TypedOperand TypedBind TypedExpr TypedNew TypedPart TypedPlace TypedItem TypedOperand TypedPair Run Run Run Behind Where Entry Behind (ℕ × Run) run_bind run_expr run_new run_part run_place run_item run_operand run_pair z
+  abbrev runs_item : TypedItem-F TypedBind TypedExpr TypedNew TypedPart TypedPlace TypedItem TypedOperand TypedPair → TypedItem-F E.Given Run Run Behind Where Entry Behind (ℕ × Run)
+  runs_item z = map-TypedItem TypedBind TypedExpr TypedNew TypedPart TypedPlace TypedItem TypedOperand TypedPair E.Given Run Run Behind Where Entry Behind (ℕ × Run) run_bind run_expr run_new run_part run_place run_item run_operand run_pair z
 
-  abbrev codes_operand : TypedOperand-F TypedBind TypedExpr TypedNew TypedPart TypedPlace TypedItem TypedOperand TypedPair → TypedOperand-F Instrs Instrs Instrs Instrs PlaceCode Instrs Instrs (ℕ × Instrs)
-  codes_operand z = map-TypedOperand TypedBind TypedExpr TypedNew TypedPart TypedPlace TypedItem TypedOperand TypedPair Instrs Instrs Instrs Instrs PlaceCode Instrs Instrs (ℕ × Instrs) code_bind code_expr code_new code_part code_place code_item code_operand code_pair z
+  abbrev codes_item : TypedItem-F TypedBind TypedExpr TypedNew TypedPart TypedPlace TypedItem TypedOperand TypedPair → TypedItem-F Code.Given Instrs Instrs Instrs PlaceCode Instrs Instrs (ℕ × Instrs)
+  codes_item z = map-TypedItem TypedBind TypedExpr TypedNew TypedPart TypedPlace TypedItem TypedOperand TypedPair Code.Given Instrs Instrs Instrs PlaceCode Instrs Instrs (ℕ × Instrs) code_bind code_expr code_new code_part code_place code_item code_operand code_pair z
 
-  abbrev runs_pair : TypedPair-F TypedBind TypedExpr TypedNew TypedPart TypedPlace TypedItem TypedOperand TypedPair → TypedPair-F Run Run Run Behind Where Entry Behind (ℕ × Run)
-  runs_pair z = map-TypedPair TypedBind TypedExpr TypedNew TypedPart TypedPlace TypedItem TypedOperand TypedPair Run Run Run Behind Where Entry Behind (ℕ × Run) run_bind run_expr run_new run_part run_place run_item run_operand run_pair z
+  abbrev runs_operand : TypedOperand-F TypedBind TypedExpr TypedNew TypedPart TypedPlace TypedItem TypedOperand TypedPair → TypedOperand-F E.Given Run Run Behind Where Entry Behind (ℕ × Run)
+  runs_operand z = map-TypedOperand TypedBind TypedExpr TypedNew TypedPart TypedPlace TypedItem TypedOperand TypedPair E.Given Run Run Behind Where Entry Behind (ℕ × Run) run_bind run_expr run_new run_part run_place run_item run_operand run_pair z
 
-  abbrev codes_pair : TypedPair-F TypedBind TypedExpr TypedNew TypedPart TypedPlace TypedItem TypedOperand TypedPair → TypedPair-F Instrs Instrs Instrs Instrs PlaceCode Instrs Instrs (ℕ × Instrs)
-  codes_pair z = map-TypedPair TypedBind TypedExpr TypedNew TypedPart TypedPlace TypedItem TypedOperand TypedPair Instrs Instrs Instrs Instrs PlaceCode Instrs Instrs (ℕ × Instrs) code_bind code_expr code_new code_part code_place code_item code_operand code_pair z
+  abbrev codes_operand : TypedOperand-F TypedBind TypedExpr TypedNew TypedPart TypedPlace TypedItem TypedOperand TypedPair → TypedOperand-F Code.Given Instrs Instrs Instrs PlaceCode Instrs Instrs (ℕ × Instrs)
+  codes_operand z = map-TypedOperand TypedBind TypedExpr TypedNew TypedPart TypedPlace TypedItem TypedOperand TypedPair Code.Given Instrs Instrs Instrs PlaceCode Instrs Instrs (ℕ × Instrs) code_bind code_expr code_new code_part code_place code_item code_operand code_pair z
+
+  abbrev runs_pair : TypedPair-F TypedBind TypedExpr TypedNew TypedPart TypedPlace TypedItem TypedOperand TypedPair → TypedPair-F E.Given Run Run Behind Where Entry Behind (ℕ × Run)
+  runs_pair z = map-TypedPair TypedBind TypedExpr TypedNew TypedPart TypedPlace TypedItem TypedOperand TypedPair E.Given Run Run Behind Where Entry Behind (ℕ × Run) run_bind run_expr run_new run_part run_place run_item run_operand run_pair z
+
+  abbrev codes_pair : TypedPair-F TypedBind TypedExpr TypedNew TypedPart TypedPlace TypedItem TypedOperand TypedPair → TypedPair-F Code.Given Instrs Instrs Instrs PlaceCode Instrs Instrs (ℕ × Instrs)
+  codes_pair z = map-TypedPair TypedBind TypedExpr TypedNew TypedPart TypedPlace TypedItem TypedOperand TypedPair Code.Given Instrs Instrs Instrs PlaceCode Instrs Instrs (ℕ × Instrs) code_bind code_expr code_new code_part code_place code_item code_operand code_pair z
+
+  run_rolled_bind : (z : TypedBind-F TypedBind TypedExpr TypedNew TypedPart TypedPlace TypedItem TypedOperand TypedPair) → run_bind (roll-TypedBind z) ≡ E.bind_step setting again names (runs_bind z)
+  run_rolled_bind z = fold-roll-TypedBind E.Given Run Run Behind Where Entry Behind (ℕ × Run) (E.bind_step setting again names) (E.expr_step setting again names) (E.new_step setting again) (E.part_step setting again) (E.place_step setting again) (E.item_step setting again names) (E.operand_step setting again names) (E.pair_step setting again names) z
+
+  code_rolled_bind : (z : TypedBind-F TypedBind TypedExpr TypedNew TypedPart TypedPlace TypedItem TypedOperand TypedPair) → code_bind (roll-TypedBind z) ≡ Code.bind_step (codes_bind z)
+  code_rolled_bind z = fold-roll-TypedBind Code.Given Instrs Instrs Instrs PlaceCode Instrs Instrs (ℕ × Instrs) Code.bind_step Code.expr_step Code.new_step (Code.part_step setting.program) (Code.place_step setting.program) Code.item_step Code.operand_step Code.pair_step z
 
   run_rolled_expr : (z : TypedExpr-F TypedBind TypedExpr TypedNew TypedPart TypedPlace TypedItem TypedOperand TypedPair) → run_expr (roll-TypedExpr z) ≡ E.expr_step setting again names (runs_expr z)
-  run_rolled_expr z = fold-roll-TypedExpr Run Run Run Behind Where Entry Behind (ℕ × Run) (E.bind_step setting again names) (E.expr_step setting again names) (E.new_step setting again) (E.part_step setting again) (E.place_step setting again) (E.item_step setting again names) (E.operand_step setting again names) (E.pair_step setting again names) z
+  run_rolled_expr z = fold-roll-TypedExpr E.Given Run Run Behind Where Entry Behind (ℕ × Run) (E.bind_step setting again names) (E.expr_step setting again names) (E.new_step setting again) (E.part_step setting again) (E.place_step setting again) (E.item_step setting again names) (E.operand_step setting again names) (E.pair_step setting again names) z
 
   code_rolled_expr : (z : TypedExpr-F TypedBind TypedExpr TypedNew TypedPart TypedPlace TypedItem TypedOperand TypedPair) → code_expr (roll-TypedExpr z) ≡ Code.expr_step (codes_expr z)
-  code_rolled_expr z = fold-roll-TypedExpr Instrs Instrs Instrs Instrs PlaceCode Instrs Instrs (ℕ × Instrs) Code.bind_step Code.expr_step Code.new_step (Code.part_step setting.program) (Code.place_step setting.program) Code.item_step Code.operand_step Code.pair_step z
+  code_rolled_expr z = fold-roll-TypedExpr Code.Given Instrs Instrs Instrs PlaceCode Instrs Instrs (ℕ × Instrs) Code.bind_step Code.expr_step Code.new_step (Code.part_step setting.program) (Code.place_step setting.program) Code.item_step Code.operand_step Code.pair_step z
 
   run_rolled_new : (z : TypedNew-F TypedBind TypedExpr TypedNew TypedPart TypedPlace TypedItem TypedOperand TypedPair) → run_new (roll-TypedNew z) ≡ E.new_step setting again (runs_new z)
-  run_rolled_new z = fold-roll-TypedNew Run Run Run Behind Where Entry Behind (ℕ × Run) (E.bind_step setting again names) (E.expr_step setting again names) (E.new_step setting again) (E.part_step setting again) (E.place_step setting again) (E.item_step setting again names) (E.operand_step setting again names) (E.pair_step setting again names) z
+  run_rolled_new z = fold-roll-TypedNew E.Given Run Run Behind Where Entry Behind (ℕ × Run) (E.bind_step setting again names) (E.expr_step setting again names) (E.new_step setting again) (E.part_step setting again) (E.place_step setting again) (E.item_step setting again names) (E.operand_step setting again names) (E.pair_step setting again names) z
 
   code_rolled_new : (z : TypedNew-F TypedBind TypedExpr TypedNew TypedPart TypedPlace TypedItem TypedOperand TypedPair) → code_new (roll-TypedNew z) ≡ Code.new_step (codes_new z)
-  code_rolled_new z = fold-roll-TypedNew Instrs Instrs Instrs Instrs PlaceCode Instrs Instrs (ℕ × Instrs) Code.bind_step Code.expr_step Code.new_step (Code.part_step setting.program) (Code.place_step setting.program) Code.item_step Code.operand_step Code.pair_step z
+  code_rolled_new z = fold-roll-TypedNew Code.Given Instrs Instrs Instrs PlaceCode Instrs Instrs (ℕ × Instrs) Code.bind_step Code.expr_step Code.new_step (Code.part_step setting.program) (Code.place_step setting.program) Code.item_step Code.operand_step Code.pair_step z
 
   run_rolled_part : (z : TypedPart-F TypedBind TypedExpr TypedNew TypedPart TypedPlace TypedItem TypedOperand TypedPair) → run_part (roll-TypedPart z) ≡ E.part_step setting again (runs_part z)
-  run_rolled_part z = fold-roll-TypedPart Run Run Run Behind Where Entry Behind (ℕ × Run) (E.bind_step setting again names) (E.expr_step setting again names) (E.new_step setting again) (E.part_step setting again) (E.place_step setting again) (E.item_step setting again names) (E.operand_step setting again names) (E.pair_step setting again names) z
+  run_rolled_part z = fold-roll-TypedPart E.Given Run Run Behind Where Entry Behind (ℕ × Run) (E.bind_step setting again names) (E.expr_step setting again names) (E.new_step setting again) (E.part_step setting again) (E.place_step setting again) (E.item_step setting again names) (E.operand_step setting again names) (E.pair_step setting again names) z
 
   code_rolled_part : (z : TypedPart-F TypedBind TypedExpr TypedNew TypedPart TypedPlace TypedItem TypedOperand TypedPair) → code_part (roll-TypedPart z) ≡ Code.part_step setting.program (codes_part z)
-  code_rolled_part z = fold-roll-TypedPart Instrs Instrs Instrs Instrs PlaceCode Instrs Instrs (ℕ × Instrs) Code.bind_step Code.expr_step Code.new_step (Code.part_step setting.program) (Code.place_step setting.program) Code.item_step Code.operand_step Code.pair_step z
+  code_rolled_part z = fold-roll-TypedPart Code.Given Instrs Instrs Instrs PlaceCode Instrs Instrs (ℕ × Instrs) Code.bind_step Code.expr_step Code.new_step (Code.part_step setting.program) (Code.place_step setting.program) Code.item_step Code.operand_step Code.pair_step z
 
   run_rolled_place : (z : TypedPlace-F TypedBind TypedExpr TypedNew TypedPart TypedPlace TypedItem TypedOperand TypedPair) → run_place (roll-TypedPlace z) ≡ E.place_step setting again (runs_place z)
-  run_rolled_place z = fold-roll-TypedPlace Run Run Run Behind Where Entry Behind (ℕ × Run) (E.bind_step setting again names) (E.expr_step setting again names) (E.new_step setting again) (E.part_step setting again) (E.place_step setting again) (E.item_step setting again names) (E.operand_step setting again names) (E.pair_step setting again names) z
+  run_rolled_place z = fold-roll-TypedPlace E.Given Run Run Behind Where Entry Behind (ℕ × Run) (E.bind_step setting again names) (E.expr_step setting again names) (E.new_step setting again) (E.part_step setting again) (E.place_step setting again) (E.item_step setting again names) (E.operand_step setting again names) (E.pair_step setting again names) z
 
   code_rolled_place : (z : TypedPlace-F TypedBind TypedExpr TypedNew TypedPart TypedPlace TypedItem TypedOperand TypedPair) → code_place (roll-TypedPlace z) ≡ Code.place_step setting.program (codes_place z)
-  code_rolled_place z = fold-roll-TypedPlace Instrs Instrs Instrs Instrs PlaceCode Instrs Instrs (ℕ × Instrs) Code.bind_step Code.expr_step Code.new_step (Code.part_step setting.program) (Code.place_step setting.program) Code.item_step Code.operand_step Code.pair_step z
+  code_rolled_place z = fold-roll-TypedPlace Code.Given Instrs Instrs Instrs PlaceCode Instrs Instrs (ℕ × Instrs) Code.bind_step Code.expr_step Code.new_step (Code.part_step setting.program) (Code.place_step setting.program) Code.item_step Code.operand_step Code.pair_step z
 
   run_rolled_item : (z : TypedItem-F TypedBind TypedExpr TypedNew TypedPart TypedPlace TypedItem TypedOperand TypedPair) → run_item (roll-TypedItem z) ≡ E.item_step setting again names (runs_item z)
-  run_rolled_item z = fold-roll-TypedItem Run Run Run Behind Where Entry Behind (ℕ × Run) (E.bind_step setting again names) (E.expr_step setting again names) (E.new_step setting again) (E.part_step setting again) (E.place_step setting again) (E.item_step setting again names) (E.operand_step setting again names) (E.pair_step setting again names) z
+  run_rolled_item z = fold-roll-TypedItem E.Given Run Run Behind Where Entry Behind (ℕ × Run) (E.bind_step setting again names) (E.expr_step setting again names) (E.new_step setting again) (E.part_step setting again) (E.place_step setting again) (E.item_step setting again names) (E.operand_step setting again names) (E.pair_step setting again names) z
 
   code_rolled_item : (z : TypedItem-F TypedBind TypedExpr TypedNew TypedPart TypedPlace TypedItem TypedOperand TypedPair) → code_item (roll-TypedItem z) ≡ Code.item_step (codes_item z)
-  code_rolled_item z = fold-roll-TypedItem Instrs Instrs Instrs Instrs PlaceCode Instrs Instrs (ℕ × Instrs) Code.bind_step Code.expr_step Code.new_step (Code.part_step setting.program) (Code.place_step setting.program) Code.item_step Code.operand_step Code.pair_step z
+  code_rolled_item z = fold-roll-TypedItem Code.Given Instrs Instrs Instrs PlaceCode Instrs Instrs (ℕ × Instrs) Code.bind_step Code.expr_step Code.new_step (Code.part_step setting.program) (Code.place_step setting.program) Code.item_step Code.operand_step Code.pair_step z
 
   run_rolled_operand : (z : TypedOperand-F TypedBind TypedExpr TypedNew TypedPart TypedPlace TypedItem TypedOperand TypedPair) → run_operand (roll-TypedOperand z) ≡ E.operand_step setting again names (runs_operand z)
-  run_rolled_operand z = fold-roll-TypedOperand Run Run Run Behind Where Entry Behind (ℕ × Run) (E.bind_step setting again names) (E.expr_step setting again names) (E.new_step setting again) (E.part_step setting again) (E.place_step setting again) (E.item_step setting again names) (E.operand_step setting again names) (E.pair_step setting again names) z
+  run_rolled_operand z = fold-roll-TypedOperand E.Given Run Run Behind Where Entry Behind (ℕ × Run) (E.bind_step setting again names) (E.expr_step setting again names) (E.new_step setting again) (E.part_step setting again) (E.place_step setting again) (E.item_step setting again names) (E.operand_step setting again names) (E.pair_step setting again names) z
 
   code_rolled_operand : (z : TypedOperand-F TypedBind TypedExpr TypedNew TypedPart TypedPlace TypedItem TypedOperand TypedPair) → code_operand (roll-TypedOperand z) ≡ Code.operand_step (codes_operand z)
-  code_rolled_operand z = fold-roll-TypedOperand Instrs Instrs Instrs Instrs PlaceCode Instrs Instrs (ℕ × Instrs) Code.bind_step Code.expr_step Code.new_step (Code.part_step setting.program) (Code.place_step setting.program) Code.item_step Code.operand_step Code.pair_step z
+  code_rolled_operand z = fold-roll-TypedOperand Code.Given Instrs Instrs Instrs PlaceCode Instrs Instrs (ℕ × Instrs) Code.bind_step Code.expr_step Code.new_step (Code.part_step setting.program) (Code.place_step setting.program) Code.item_step Code.operand_step Code.pair_step z
 
   run_rolled_pair : (z : TypedPair-F TypedBind TypedExpr TypedNew TypedPart TypedPlace TypedItem TypedOperand TypedPair) → run_pair (roll-TypedPair z) ≡ E.pair_step setting again names (runs_pair z)
-  run_rolled_pair z = fold-roll-TypedPair Run Run Run Behind Where Entry Behind (ℕ × Run) (E.bind_step setting again names) (E.expr_step setting again names) (E.new_step setting again) (E.part_step setting again) (E.place_step setting again) (E.item_step setting again names) (E.operand_step setting again names) (E.pair_step setting again names) z
+  run_rolled_pair z = fold-roll-TypedPair E.Given Run Run Behind Where Entry Behind (ℕ × Run) (E.bind_step setting again names) (E.expr_step setting again names) (E.new_step setting again) (E.part_step setting again) (E.place_step setting again) (E.item_step setting again names) (E.operand_step setting again names) (E.pair_step setting again names) z
 
   code_rolled_pair : (z : TypedPair-F TypedBind TypedExpr TypedNew TypedPart TypedPlace TypedItem TypedOperand TypedPair) → code_pair (roll-TypedPair z) ≡ Code.pair_step (codes_pair z)
-  code_rolled_pair z = fold-roll-TypedPair Instrs Instrs Instrs Instrs PlaceCode Instrs Instrs (ℕ × Instrs) Code.bind_step Code.expr_step Code.new_step (Code.part_step setting.program) (Code.place_step setting.program) Code.item_step Code.operand_step Code.pair_step z
+  code_rolled_pair z = fold-roll-TypedPair Code.Given Instrs Instrs Instrs PlaceCode Instrs Instrs (ℕ × Instrs) Code.bind_step Code.expr_step Code.new_step (Code.part_step setting.program) (Code.place_step setting.program) Code.item_step Code.operand_step Code.pair_step z
 
   puts_expr : (z : TypedExpr-F TypedBind TypedExpr TypedNew TypedPart TypedPlace TypedItem TypedOperand TypedPair) (f : Run) (code : Instrs) → ((st : State) → E.expr_step setting again names (runs_expr z) st ≡ f st) → Code.expr_step (codes_expr z) ≡ code → Puts f code → OfExpr (roll-TypedExpr z)
   puts_expr z f code q e h = Sim.puts_same (site_of setting) image r (run_expr (roll-TypedExpr z)) f (code_expr (roll-TypedExpr z)) code (λ st. ap (λ g. g st) (run_rolled_expr z) ∙ q st) (code_rolled_expr z ∙ e) h
@@ -297,14 +321,8 @@ module _ (setting : Setting) (image : Image) (r : Trail.Run) (is : IsImage setti
   puts_new : (z : TypedNew-F TypedBind TypedExpr TypedNew TypedPart TypedPlace TypedItem TypedOperand TypedPair) (f : Run) (code : Instrs) → ((st : State) → E.new_step setting again (runs_new z) st ≡ f st) → Code.new_step (codes_new z) ≡ code → Puts f code → OfNew (roll-TypedNew z)
   puts_new z f code q e h = Sim.puts_same (site_of setting) image r (run_new (roll-TypedNew z)) f (code_new (roll-TypedNew z)) code (λ st. ap (λ g. g st) (run_rolled_new z) ∙ q st) (code_rolled_new z ∙ e) h
 
-  lacks_new : (z : TypedNew-F TypedBind TypedExpr TypedNew TypedPart TypedPlace TypedItem TypedOperand TypedPair) → ((st : State) → E.new_step setting again (runs_new z) st ≡ unbuilt st) → Code.new_step (codes_new z) ≡ Code.unbuilt → OfNew (roll-TypedNew z)
-  lacks_new z q e = puts_new z (λ st. unbuilt st) Code.unbuilt q e (Sim.puts_unbuilt (site_of setting) image r)
-
   takes_part : (z : TypedPart-F TypedBind TypedExpr TypedNew TypedPart TypedPlace TypedItem TypedOperand TypedPair) (f : Behind) (code : Instrs) → ((v : Value) (st : State) → E.part_step setting again (runs_part z) v st ≡ f v st) → Code.part_step setting.program (codes_part z) ≡ code → Takes f code → OfPart (roll-TypedPart z)
   takes_part z f code q e h = Sim.takes_same (site_of setting) image r (run_part (roll-TypedPart z)) f (code_part (roll-TypedPart z)) code (λ v st. ap (λ g. g v st) (run_rolled_part z) ∙ q v st) (code_rolled_part z ∙ e) h
-
-  lacks_part : (z : TypedPart-F TypedBind TypedExpr TypedNew TypedPart TypedPlace TypedItem TypedOperand TypedPair) → ((v : Value) (st : State) → E.part_step setting again (runs_part z) v st ≡ unbuilt st) → Code.part_step setting.program (codes_part z) ≡ Code.unbuilt → OfPart (roll-TypedPart z)
-  lacks_part z q e = takes_part z (λ v st. unbuilt st) Code.unbuilt q e (λ a v k temps st post. Sim.unbuilt_at (site_of setting) image r a k (v ∷ temps) st post)
 
   places_same : (f g : Where) (p q : PlaceCode) → f ≡ g → p ≡ q → Places g q → Places f p
   places_same f g p q e h x = subst (λ y. Places y p) (sym e) (subst (λ y. Places g y) (sym h) x)
@@ -333,6 +351,10 @@ module _ (setting : Setting) (image : Image) (r : Trail.Run) (is : IsImage setti
   all_fields : (ps : List SuchPair) → OfLists.AllFill (site_of setting) image r (map run_pair (map (λ e. e.0) ps)) (map code_pair (map (λ e. e.0) ps))
   all_fields [] = tt
   all_fields (p ∷ ps) = ((p.1.0, p.1.1), all_fields ps)
+
+  all_binds : (bs : List SuchBind) → OfQueries.AllBind (site_of setting) image r (map run_bind (map (λ e. e.0) bs)) (map code_bind (map (λ e. e.0) bs))
+  all_binds [] = tt
+  all_binds (b ∷ bs) = ((b.1.0, b.1.1), all_binds bs)
 
   abbrev exprs : List SuchExpr → List TypedExpr
   exprs es = map (λ e. e.0) es
@@ -374,7 +396,9 @@ module _ (setting : Setting) (image : Image) (r : Trail.Run) (is : IsImage setti
   expr_layer (TypedExpr-F.Chain p os) =
       puts_expr (TypedExpr-F.Chain p.0 (map (λ x. x.0) os)) _ _ (λ st. refl) refl
       (then_takes p (chained (map run_operand (map (λ x. x.0) os))) (joined (map code_operand (map (λ x. x.0) os))) (OfValues.chain_at (site_of setting) image r (map run_operand (map (λ x. x.0) os)) (map code_operand (map (λ x. x.0) os)) (all_operands os)))
-  expr_layer (TypedExpr-F.Convert Conv.ToRecord p) = lacks_expr (TypedExpr-F.Convert Conv.ToRecord p.0) (λ st. refl) refl
+  expr_layer (TypedExpr-F.Convert Conv.ToRecord p) =
+      puts_expr (TypedExpr-F.Convert Conv.ToRecord p.0) _ _ (λ st. refl) refl
+      (then_takes p (λ v s. calc (only v s.world.heap) s) (I.Only ∷ []) (OfThings.only_at (site_of setting) image r))
   expr_layer (TypedExpr-F.Convert Conv.Same p) =
       puts_expr (TypedExpr-F.Convert Conv.Same p.0) _ _ (λ st. refl) refl
       (converts Conv.Same p)
@@ -424,10 +448,9 @@ module _ (setting : Setting) (image : Image) (r : Trail.Run) (is : IsImage setti
   expr_layer (TypedExpr-F.Debug p) =
       puts_expr (TypedExpr-F.Debug p.0) _ _ (λ st. refl) refl
       (then_takes p (say setting again names) (I.Print ∷ []) (OfThings.print_at setting image r is again names named))
-  expr_layer (TypedExpr-F.Query q []) =
-      puts_expr (TypedExpr-F.Query q []) _ _ (λ st. refl) refl
-      (OfQueries.count_if_at (site_of setting) image r _ _ _)
-  expr_layer (TypedExpr-F.Query q (b ∷ bs)) = lacks_expr (TypedExpr-F.Query q (b.0 ∷ map (λ x. x.0) bs)) (λ st. refl) refl
+  expr_layer (TypedExpr-F.Query q bs) =
+      puts_expr (TypedExpr-F.Query q (map (λ x. x.0) bs)) _ _ (λ st. refl) refl
+      (OfQueries.query_at (site_of setting) image r (queried q) (map run_bind (map (λ x. x.0) bs)) (map code_bind (map (λ x. x.0) bs)) (all_binds bs))
   expr_layer (TypedExpr-F.TriggerVariable v) = lacks_expr (TypedExpr-F.TriggerVariable v) (λ st. refl) refl
 
   new_layer : (y : NewLayer) → OfNew (new_in y)
@@ -449,20 +472,22 @@ module _ (setting : Setting) (image : Image) (r : Trail.Run) (is : IsImage setti
   new_layer (TypedNew-F.Copy kind p) =
       puts_new (TypedNew-F.Copy kind p.0) _ _ (λ st. refl) refl
       (then_takes p (make_copy kind) (I.Copied kind ∷ []) (OfThings.copied_at (site_of setting) image r kind))
-  new_layer (TypedNew-F.ById p) = lacks_new (TypedNew-F.ById p.0) (λ st. refl) refl
+  new_layer (TypedNew-F.ById p) =
+      puts_new (TypedNew-F.ById p.0) _ _ (λ st. refl) refl
+      (then_takes p (make_copy (Kinds.Map Primitive.Id)) (I.Copied (Kinds.Map Primitive.Id) ∷ []) (OfThings.copied_at (site_of setting) image r (Kinds.Map Primitive.Id)))
 
   -- an element of a list
   item_at : (p : SuchExpr) → Takes (λ v st. bind (run_expr p.0 st) (λ i s. on_collection (Which.List L.Get) v (i ∷ []) s)) (code_expr p.0 ++ I.Get S.Item ∷ [])
   item_at p a v k temps st post =
       Sim.again_at (site_of setting) image r a (code_expr p.0) (I.Get S.Item ∷ []) k (v ∷ temps) st
       (p.1 a (I.Get S.Item ∷ k) (v ∷ temps) st
-      (weaken _ _ (Sim.Stopped (site_of setting) image r a) (run_expr p.0 st) (λ i s h. OfPlaces.get_at (site_of setting) image r setting.program a (ItemAt v i) k temps s h)
+      (weaken _ _ (Sim.Stopped (site_of setting) image r a) (run_expr p.0 st) (λ i s h. OfPlaces.get_at setting image r a (ItemAt v i) k temps s h)
       (bound (λ x s. Sim.At (site_of setting) image r a k (x ∷ temps) s) (Sim.Stopped (site_of setting) image r a) (run_expr p.0 st) (λ i s. on_collection (Which.List L.Get) v (i ∷ []) s) post)))
 
   part_layer : (y : PartLayer) → OfPart (part_in y)
   part_layer (TypedPart-F.«TypedPart::Field» c n) =
       takes_part (TypedPart-F.«TypedPart::Field» c n) _ _ (λ v st. refl) refl
-      (OfPlaces.field_at (site_of setting) image r setting.program (field_place setting.program c n))
+      (OfPlaces.field_at setting image r (field_place setting.program c n))
   part_layer (TypedPart-F.«TypedPart::Index» p) =
       takes_part (TypedPart-F.«TypedPart::Index» p.0) _ _ (λ v st. refl) refl
       (item_at p)
@@ -474,9 +499,13 @@ module _ (setting : Setting) (image : Image) (r : Trail.Run) (is : IsImage setti
       (taking_on es (λ args v. called_builtin setting.program setting.ticket which (v ∷ args)) (I.Builtin which (suc (length (map code_expr (exprs es)))) ∷ []) (λ args v a k temps s n h. OfThings.builtin_at setting image r is a which (suc (length (map code_expr (exprs es)))) (v ∷ args) k temps s (ap suc n) h))
   part_layer (TypedPart-F.«TypedPart::Cell» o f goes_on) =
       takes_part (TypedPart-F.«TypedPart::Cell» o f goes_on) _ _ (λ v st. refl) refl
-      (OfPlaces.cell_part_at (site_of setting) image r setting.program f goes_on)
-  part_layer (TypedPart-F.Parent o f mark) = lacks_part (TypedPart-F.Parent o f mark) (λ v st. refl) refl
-  part_layer (TypedPart-F.Children o f mark) = lacks_part (TypedPart-F.Children o f mark) (λ v st. refl) refl
+      (OfPlaces.cell_part_at setting image r f goes_on)
+  part_layer (TypedPart-F.Parent o f goes_on) =
+      takes_part (TypedPart-F.Parent o f goes_on) _ _ (λ v st. refl) refl
+      (OfThings.parent_at (site_of setting) image r f goes_on)
+  part_layer (TypedPart-F.Children o f goes_on) =
+      takes_part (TypedPart-F.Children o f goes_on) _ _ (λ v st. refl) refl
+      (OfThings.children_at (site_of setting) image r o f goes_on)
 
   place_layer : (y : PlaceLayer) → OfPlace (place_in y)
   place_layer (TypedPlace-F.«TypedPlace::Local» x) = is_place (TypedPlace-F.«TypedPlace::Local» x) (λ a k temps st post. post refl refl)
@@ -526,12 +555,28 @@ module _ (setting : Setting) (image : Image) (r : Trail.Run) (is : IsImage setti
     codes : code_pair (roll-TypedPair z) ≡ (y.field, code_expr y.value.0)
     codes = code_rolled_pair z
 
+  -- a bind is of one kind in both, and its code puts its value
+  bind_of : (z : TypedBind-F TypedBind TypedExpr TypedNew TypedPart TypedPlace TypedItem TypedOperand TypedPair) (kind : BindKind) (p : SuchExpr) → E.bind_step setting again names (runs_bind z) ≡ (kind, run_expr p.0) → Code.bind_step (codes_bind z) ≡ (kind, code_expr p.0) → OfBind (roll-TypedBind z)
+  bind_of z kind p e h = (
+    ap (λ b. b.0) runs ∙ sym (ap (λ b. b.0) codes),
+    Sim.puts_same (site_of setting) image r _ (run_expr p.0) _ (code_expr p.0) (λ st. ap (λ b. b.1 st) runs) (ap (λ b. b.1) codes) p.1,
+  ) where
+    runs : run_bind (roll-TypedBind z) ≡ (kind, run_expr p.0)
+    runs = run_rolled_bind z ∙ e
+
+    codes : code_bind (roll-TypedBind z) ≡ (kind, code_expr p.0)
+    codes = code_rolled_bind z ∙ h
+
+  bind_layer : (y : BindLayer) → OfBind (bind_in y)
+  bind_layer (TypedBind-F.One p) = bind_of (TypedBind-F.One p.0) One p refl refl
+  bind_layer (TypedBind-F.Many how p) = bind_of (TypedBind-F.Many how p.0) (Many how) p refl refl
+
   -- ---- every expression
 
   pub expr_at : (e : TypedExpr) → Puts (E.value_of setting again names e) (Code.expr_code setting.program e)
   expr_at =
       ind-TypedExpr OfBind OfExpr OfNew OfPart OfPlace OfItem OfOperand OfPair
-      (λ x y is. tt)
+      (λ x y is. subst (λ z. OfBind (roll-TypedBind z)) is (bind_layer y))
       (λ x y is. subst (λ z. OfExpr (roll-TypedExpr z)) is (expr_layer y))
       (λ x y is. subst (λ z. OfNew (roll-TypedNew z)) is (new_layer y))
       (λ x y is. subst (λ z. OfPart (roll-TypedPart z)) is (part_layer y))

@@ -1,9 +1,10 @@
 -- Cells of records in instructions.
 use Rattle.std.proofs.Common.{◌≡◌, ℕ, Bool, true, false, cond, List, [], ◌∷◌, Option, Some, None, refl, sym, ap, ◌∙◌}
 use Rattle.std.specs.Prelude.{slice_get, slice_index_or}
-use Rattle.request_states.specs.Values.{null}
 use Rattle.apex_num.specs.declared.kind.LimitKind.TheVariants.{Alloc}
-use Rattle.apex_meaning.specs.Places.{cell_or_null, setting_units, with_cell}
+use Rattle.apex_meaning.specs.Places.{setting_units, with_cell}
+use Rattle.apex_meaning.specs.Records.{cell_in}
+use Rattle.apex_schema.specs.declared.schema.Schema.{Schema}
 use Rattle.platform_errors.specs.declared.thrown.Thrown.TheVariants.{NullObject}
 use Rattle.txn_heap.specs.declared.thing.Ref.{Ref}
 use Rattle.txn_heap.specs.declared.thing.Thing.{Thing}
@@ -17,8 +18,8 @@ use Rattle.stack_code.specs.declared.code.Slot.TheVariants as S
 use Rattle.stack_code.specs.declared.state.Config.{Config}
 use Rattle.stack_code.specs.declared.state.World.{World}
 use Rattle.stack_code.specs.Machine.{Next, charged, next, on_calc, on_taken, raise, taken, with_heap}
-use Rattle.stack_code.specs.Things.{cell_loaded, cell_of_thing, cell_stored, change_next, fetch_next, get_next, loaded, null_loaded, set_cell_in_thing, set_next, stored}
-use Rattle.program_things.specs.Cells.{cell_of, cell_read, null_if, setting_at, setting_of}
+use Rattle.stack_code.specs.Things.{cell_stored, change_next, fetch_next, get_next, loaded, set_cell_in_thing, set_next, stored}
+use Rattle.program_things.specs.Cells.{setting_at, setting_of}
 use Rattle.program_things.specs.Steps.{Takes}
 use Rattle.program_things.proofs.Lists.{taken_one}
 use Rattle.program_things.proofs.Same.{with_stack, in_world, calc_alike, charged_alike, taken_is, top_is}
@@ -27,32 +28,6 @@ use Rattle.program_things.proofs.Same.{with_stack, in_world, calc_alike, charged
 
 some_is : {A : Type 0} (x y : A) → Some x ≡ Some y → x ≡ y
 some_is x y e = cc
-
-pub loaded_some : (field : ℕ) (goes_on : Bool) (on v : Value) (c : Config) (go : Value → Config → Next) → cell_read field goes_on on c.world.heap ≡ Some v → cell_loaded field goes_on on c go ≡ go v c
-loaded_some field true (Plain k) v c go e = ap (λ x. go x c) (some_is null v e)
-loaded_some field false (Plain k) v c go e = cc
-loaded_some field goes_on (Object r) v c go e = by (slice_get c.world.heap r.place) e where
-  by : (t : Option Thing) → cell_of field t ≡ Some v → cell_of_thing field t c go ≡ go v c
-  by (Some (T.Record i)) e = ap (λ x. go x c) (some_is (cell_or_null (slice_index_or i.cells field None)) v e)
-  by (Some (T.Instance i)) e = cc
-  by (Some (T.List i)) e = cc
-  by (Some (T.Set i)) e = cc
-  by (Some (T.Map i)) e = cc
-  by (Some (T.Exception i)) e = cc
-  by None e = cc
-
-pub loaded_none : (field : ℕ) (goes_on : Bool) (on : Value) (c : Config) (go : Value → Config → Next) → cell_read field goes_on on c.world.heap ≡ None → cell_loaded field goes_on on c go ≡ raise NullObject c
-loaded_none field true (Plain k) c go e = cc
-loaded_none field false (Plain k) c go e = refl
-loaded_none field goes_on (Object r) c go e = by (slice_get c.world.heap r.place) e where
-  by : (t : Option Thing) → cell_of field t ≡ None → cell_of_thing field t c go ≡ raise NullObject c
-  by (Some (T.Record i)) e = cc
-  by (Some (T.Instance i)) e = refl
-  by (Some (T.List i)) e = refl
-  by (Some (T.Set i)) e = refl
-  by (Some (T.Map i)) e = refl
-  by (Some (T.Exception i)) e = refl
-  by None e = refl
 
 -- a record and its units, where they are these
 setting_is : (field : ℕ) (v : Value) (x y : Ref × ℕ) (c : Config) (go : Config → Next) → Some x ≡ Some y →
@@ -101,26 +76,17 @@ stored_alike field (Object q) v c s go to h = by (slice_get c.world.heap q.place
 -- ---- instructions
 
 module _ (field : ℕ) (goes_on : Bool) (c : Config) (on : Value) where
-  pub get_some : (rest : List Value) (v : Value) → Takes c.top.stack on rest → cell_read field goes_on on c.world.heap ≡ Some v → get_next (S.Cell field goes_on) c ≡ next (with_stack c rest) (v ∷ rest)
-  get_some rest v t e =
-      taken_is 1 c.top.stack rest (on ∷ []) (λ ps stack. loaded (S.Cell field goes_on) ps c (λ w d. next d (w ∷ stack))) (taken_one 0 c.top.stack rest [] on t)
-      ∙ loaded_some field goes_on on v c (λ w d. next d (w ∷ rest)) e
+  pub get_is : (schema : Schema) (rest : List Value) → Takes c.top.stack on rest →
+      get_next schema (S.Cell field goes_on) c ≡ on_calc (cell_in schema field goes_on on c.world.heap) (with_stack c rest) (λ v. next (with_stack c rest) (v ∷ rest))
+  get_is schema rest t =
+      taken_is 1 c.top.stack rest (on ∷ []) (λ ps stack. loaded schema (S.Cell field goes_on) ps c (λ w d. next d (w ∷ stack))) (taken_one 0 c.top.stack rest [] on t)
+      ∙ calc_alike (cell_in schema field goes_on on c.world.heap) c rest _ _ (λ v. refl)
 
-  pub get_none : (rest : List Value) → Takes c.top.stack on rest → cell_read field goes_on on c.world.heap ≡ None → get_next (S.Cell field goes_on) c ≡ raise NullObject (with_stack c rest)
-  get_none rest t e =
-      taken_is 1 c.top.stack rest (on ∷ []) (λ ps stack. loaded (S.Cell field goes_on) ps c (λ w d. next d (w ∷ stack))) (taken_one 0 c.top.stack rest [] on t)
-      ∙ loaded_none field goes_on on c (λ w d. next d (w ∷ rest)) e
-
-  pub fetch_some : (rest : List Value) (v : Value) → c.top.stack ≡ on ∷ rest → cell_read field goes_on on c.world.heap ≡ Some v → fetch_next (S.Cell field goes_on) c ≡ next c (v ∷ on ∷ rest)
-  fetch_some rest v s e =
-      taken_is 1 c.top.stack rest (on ∷ []) (λ ps stack. loaded (S.Cell field goes_on) ps c (λ w d. next d (w ∷ d.top.stack))) (ap (λ xs. taken 1 xs []) s)
-      ∙ loaded_some field goes_on on v c (λ w d. next d (w ∷ d.top.stack)) e
-      ∙ ap (λ xs. next c (v ∷ xs)) s
-
-  pub fetch_none : (rest : List Value) → c.top.stack ≡ on ∷ rest → cell_read field goes_on on c.world.heap ≡ None → fetch_next (S.Cell field goes_on) c ≡ raise NullObject (with_stack c rest)
-  fetch_none rest s e =
-      taken_is 1 c.top.stack rest (on ∷ []) (λ ps stack. loaded (S.Cell field goes_on) ps c (λ w d. next d (w ∷ d.top.stack))) (ap (λ xs. taken 1 xs []) s)
-      ∙ loaded_none field goes_on on c (λ w d. next d (w ∷ d.top.stack)) e
+  pub fetch_is : (schema : Schema) (rest : List Value) → c.top.stack ≡ on ∷ rest →
+      fetch_next schema (S.Cell field goes_on) c ≡ on_calc (cell_in schema field goes_on on c.world.heap) (with_stack c rest) (λ v. next (with_stack c rest) (v ∷ on ∷ rest))
+  fetch_is schema rest s =
+      taken_is 1 c.top.stack rest (on ∷ []) (λ ps stack. loaded schema (S.Cell field goes_on) ps c (λ w d. next d (w ∷ d.top.stack))) (ap (λ xs. taken 1 xs []) s)
+      ∙ calc_alike (cell_in schema field goes_on on c.world.heap) c rest _ _ (λ v. ap (λ xs. next c (v ∷ xs)) s)
 
   pub set_is : (value : Value) (under rest : List Value) → Takes c.top.stack value under → Takes under on rest → set_next (S.Cell field goes_on) c ≡ cell_stored field on value (with_stack c rest) (λ d. next d (value ∷ rest))
   set_is value under rest t u =
@@ -129,14 +95,9 @@ module _ (field : ℕ) (goes_on : Bool) (c : Config) (on : Value) where
       ∙ stored_alike field on value c rest _ _ (λ w. refl)
 
   module _ (kind : StepKind) (n : Number) (rest : List Value) (t : Takes c.top.stack on rest) where
-    pub change_some : (old : Value) → cell_read field goes_on on c.world.heap ≡ Some old →
-        change_next kind n (S.Cell field goes_on) c ≡ on_calc (stepped kind.up n old) (with_stack c rest) (λ new. cell_stored field on new (with_stack c rest) (λ e. next e (cond kind.before new old ∷ rest)))
-    change_some old e =
-        taken_is 1 c.top.stack rest (on ∷ []) (λ ps stack. loaded (S.Cell field goes_on) ps c (λ v d. on_calc (stepped kind.up n v) d (λ new. stored (S.Cell field goes_on) ps new d (λ x. next x (cond kind.before new v ∷ stack))))) (taken_one 0 c.top.stack rest [] on t)
-        ∙ loaded_some field goes_on on old c (λ v d. on_calc (stepped kind.up n v) d (λ new. stored (S.Cell field goes_on) (on ∷ []) new d (λ x. next x (cond kind.before new v ∷ rest)))) e
-        ∙ calc_alike (stepped kind.up n old) c rest _ _ (λ new. stored_alike field on new c rest _ _ (λ w. refl))
-
-    pub change_none : cell_read field goes_on on c.world.heap ≡ None → change_next kind n (S.Cell field goes_on) c ≡ raise NullObject (with_stack c rest)
-    change_none e =
-        taken_is 1 c.top.stack rest (on ∷ []) (λ ps stack. loaded (S.Cell field goes_on) ps c (λ v d. on_calc (stepped kind.up n v) d (λ new. stored (S.Cell field goes_on) ps new d (λ x. next x (cond kind.before new v ∷ stack))))) (taken_one 0 c.top.stack rest [] on t)
-        ∙ loaded_none field goes_on on c (λ v d. on_calc (stepped kind.up n v) d (λ new. stored (S.Cell field goes_on) (on ∷ []) new d (λ x. next x (cond kind.before new v ∷ rest)))) e
+    pub change_is : (schema : Schema) →
+        change_next schema kind n (S.Cell field goes_on) c
+        ≡ on_calc (cell_in schema field goes_on on c.world.heap) (with_stack c rest) (λ old. on_calc (stepped kind.up n old) (with_stack c rest) (λ new. cell_stored field on new (with_stack c rest) (λ e. next e (cond kind.before new old ∷ rest))))
+    change_is schema =
+        taken_is 1 c.top.stack rest (on ∷ []) (λ ps stack. loaded schema (S.Cell field goes_on) ps c (λ v d. on_calc (stepped kind.up n v) d (λ new. stored (S.Cell field goes_on) ps new d (λ x. next x (cond kind.before new v ∷ stack))))) (taken_one 0 c.top.stack rest [] on t)
+        ∙ calc_alike (cell_in schema field goes_on on c.world.heap) c rest _ _ (λ old. calc_alike (stepped kind.up n old) c rest _ _ (λ new. stored_alike field on new c rest _ _ (λ w. refl)))

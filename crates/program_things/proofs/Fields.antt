@@ -1,6 +1,7 @@
 -- Fields of instances in instructions.
 use Rattle.std.proofs.Common.{◌≡◌, ℕ, Bool, true, false, cond, List, [], ◌∷◌, Option, Some, None, refl, sym, ap, ◌∙◌}
 use Rattle.std.specs.Prelude.{slice_get, slice_index_or}
+use Rattle.apex_meaning.specs.Builtins.{first_of}
 use Rattle.request_states.specs.Values.{null}
 use Rattle.platform_errors.specs.declared.thrown.Thrown.TheVariants.{NullObject}
 use Rattle.txn_heap.specs.Changes.{changed as things_changed, thing_after}
@@ -16,9 +17,9 @@ use Rattle.value_operators.specs.Operators.{stepped}
 use Rattle.stack_code.specs.declared.code.Slot.TheVariants as S
 use Rattle.stack_code.specs.declared.state.Config.{Config}
 use Rattle.stack_code.specs.Machine.{Next, next, on_calc, on_taken, raise, taken, with_heap}
-use Rattle.stack_code.specs.Things.{change_next, fetch_next, field_loaded, field_of_thing, field_stored, get_next, loaded, set_in_thing, set_next, stored}
+use Rattle.stack_code.specs.Things.{field_loaded, field_of_thing, field_stored, set_in_thing, set_next, stored}
 use Rattle.program_things.specs.Steps.{Takes}
-use Rattle.program_things.specs.Variables.{field_at, field_of, instance_at, is_instance}
+use Rattle.program_things.specs.Variables.{field_at, field_fetched, field_got, field_of, field_stepped, instance_at, is_instance}
 use Rattle.program_things.proofs.Lists.{taken_one}
 use Rattle.program_things.proofs.Same.{with_stack, calc_alike, taken_is, top_is}
 
@@ -92,25 +93,25 @@ stored_alike place (Object q) v c s go to h = by (slice_get c.world.heap q.place
 -- ---- instructions
 
 module _ (place : ℕ) (c : Config) (on : Value) where
-  pub get_some : (rest : List Value) (v : Value) → Takes c.top.stack on rest → field_at place on c.world.heap ≡ Some v → get_next (S.Field place) c ≡ next (with_stack c rest) (v ∷ rest)
+  pub get_some : (rest : List Value) (v : Value) → Takes c.top.stack on rest → field_at place on c.world.heap ≡ Some v → field_got place c ≡ next (with_stack c rest) (v ∷ rest)
   get_some rest v t e =
-      taken_is 1 c.top.stack rest (on ∷ []) (λ ps stack. loaded (S.Field place) ps c (λ w d. next d (w ∷ stack))) (taken_one 0 c.top.stack rest [] on t)
+      taken_is 1 c.top.stack rest (on ∷ []) (λ ps stack. field_loaded place (first_of ps) c (λ w d. next d (w ∷ stack))) (taken_one 0 c.top.stack rest [] on t)
       ∙ loaded_some place on v c (λ w d. next d (w ∷ rest)) e
 
-  pub get_none : (rest : List Value) → Takes c.top.stack on rest → field_at place on c.world.heap ≡ None → get_next (S.Field place) c ≡ raise NullObject (with_stack c rest)
+  pub get_none : (rest : List Value) → Takes c.top.stack on rest → field_at place on c.world.heap ≡ None → field_got place c ≡ raise NullObject (with_stack c rest)
   get_none rest t e =
-      taken_is 1 c.top.stack rest (on ∷ []) (λ ps stack. loaded (S.Field place) ps c (λ w d. next d (w ∷ stack))) (taken_one 0 c.top.stack rest [] on t)
+      taken_is 1 c.top.stack rest (on ∷ []) (λ ps stack. field_loaded place (first_of ps) c (λ w d. next d (w ∷ stack))) (taken_one 0 c.top.stack rest [] on t)
       ∙ loaded_none place on c (λ w d. next d (w ∷ rest)) e
 
-  pub fetch_some : (rest : List Value) (v : Value) → c.top.stack ≡ on ∷ rest → field_at place on c.world.heap ≡ Some v → fetch_next (S.Field place) c ≡ next c (v ∷ on ∷ rest)
+  pub fetch_some : (rest : List Value) (v : Value) → c.top.stack ≡ on ∷ rest → field_at place on c.world.heap ≡ Some v → field_fetched place c ≡ next c (v ∷ on ∷ rest)
   fetch_some rest v s e =
-      taken_is 1 c.top.stack rest (on ∷ []) (λ ps stack. loaded (S.Field place) ps c (λ w d. next d (w ∷ d.top.stack))) (ap (λ xs. taken 1 xs []) s)
+      taken_is 1 c.top.stack rest (on ∷ []) (λ ps stack. field_loaded place (first_of ps) c (λ w d. next d (w ∷ d.top.stack))) (ap (λ xs. taken 1 xs []) s)
       ∙ loaded_some place on v c (λ w d. next d (w ∷ d.top.stack)) e
       ∙ ap (λ xs. next c (v ∷ xs)) s
 
-  pub fetch_none : (rest : List Value) → c.top.stack ≡ on ∷ rest → field_at place on c.world.heap ≡ None → fetch_next (S.Field place) c ≡ raise NullObject (with_stack c rest)
+  pub fetch_none : (rest : List Value) → c.top.stack ≡ on ∷ rest → field_at place on c.world.heap ≡ None → field_fetched place c ≡ raise NullObject (with_stack c rest)
   fetch_none rest s e =
-      taken_is 1 c.top.stack rest (on ∷ []) (λ ps stack. loaded (S.Field place) ps c (λ w d. next d (w ∷ d.top.stack))) (ap (λ xs. taken 1 xs []) s)
+      taken_is 1 c.top.stack rest (on ∷ []) (λ ps stack. field_loaded place (first_of ps) c (λ w d. next d (w ∷ d.top.stack))) (ap (λ xs. taken 1 xs []) s)
       ∙ loaded_none place on c (λ w d. next d (w ∷ d.top.stack)) e
 
   pub set_is : (value : Value) (under rest : List Value) → Takes c.top.stack value under → Takes under on rest → set_next (S.Field place) c ≡ field_stored place on value (with_stack c rest) (λ d. next d (value ∷ rest))
@@ -121,13 +122,13 @@ module _ (place : ℕ) (c : Config) (on : Value) where
 
   module _ (kind : StepKind) (n : Number) (rest : List Value) (t : Takes c.top.stack on rest) where
     pub change_some : (old : Value) → field_at place on c.world.heap ≡ Some old →
-        change_next kind n (S.Field place) c ≡ on_calc (stepped kind.up n old) (with_stack c rest) (λ new. field_stored place on new (with_stack c rest) (λ e. next e (cond kind.before new old ∷ rest)))
+        field_stepped kind n place c ≡ on_calc (stepped kind.up n old) (with_stack c rest) (λ new. field_stored place on new (with_stack c rest) (λ e. next e (cond kind.before new old ∷ rest)))
     change_some old e =
-        taken_is 1 c.top.stack rest (on ∷ []) (λ ps stack. loaded (S.Field place) ps c (λ v d. on_calc (stepped kind.up n v) d (λ new. stored (S.Field place) ps new d (λ x. next x (cond kind.before new v ∷ stack))))) (taken_one 0 c.top.stack rest [] on t)
-        ∙ loaded_some place on old c (λ v d. on_calc (stepped kind.up n v) d (λ new. stored (S.Field place) (on ∷ []) new d (λ x. next x (cond kind.before new v ∷ rest)))) e
+        taken_is 1 c.top.stack rest (on ∷ []) (λ ps stack. field_loaded place (first_of ps) c (λ v d. on_calc (stepped kind.up n v) d (λ new. field_stored place (first_of ps) new d (λ x. next x (cond kind.before new v ∷ stack))))) (taken_one 0 c.top.stack rest [] on t)
+        ∙ loaded_some place on old c (λ v d. on_calc (stepped kind.up n v) d (λ new. field_stored place on new d (λ x. next x (cond kind.before new v ∷ rest)))) e
         ∙ calc_alike (stepped kind.up n old) c rest _ _ (λ new. stored_alike place on new c rest _ _ (λ heap. refl))
 
-    pub change_none : field_at place on c.world.heap ≡ None → change_next kind n (S.Field place) c ≡ raise NullObject (with_stack c rest)
+    pub change_none : field_at place on c.world.heap ≡ None → field_stepped kind n place c ≡ raise NullObject (with_stack c rest)
     change_none e =
-        taken_is 1 c.top.stack rest (on ∷ []) (λ ps stack. loaded (S.Field place) ps c (λ v d. on_calc (stepped kind.up n v) d (λ new. stored (S.Field place) ps new d (λ x. next x (cond kind.before new v ∷ stack))))) (taken_one 0 c.top.stack rest [] on t)
-        ∙ loaded_none place on c (λ v d. on_calc (stepped kind.up n v) d (λ new. stored (S.Field place) (on ∷ []) new d (λ x. next x (cond kind.before new v ∷ rest)))) e
+        taken_is 1 c.top.stack rest (on ∷ []) (λ ps stack. field_loaded place (first_of ps) c (λ v d. on_calc (stepped kind.up n v) d (λ new. field_stored place (first_of ps) new d (λ x. next x (cond kind.before new v ∷ stack))))) (taken_one 0 c.top.stack rest [] on t)
+        ∙ loaded_none place on c (λ v d. on_calc (stepped kind.up n v) d (λ new. field_stored place on new d (λ x. next x (cond kind.before new v ∷ rest)))) e

@@ -12,3 +12,4 @@ mod Framed
 mod Messages
 mod Named
 pub mod Lines
+mod Querying

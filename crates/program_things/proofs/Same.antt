@@ -41,9 +41,10 @@ use Rattle.stack_code.specs.declared.state.Config.{Config}
 use Rattle.stack_code.specs.declared.state.World.{World}
 use Rattle.stack_code.specs.Machine.{Next, Goes, charged, charged_if, next, on_calc, on_taken, on_top, raise, taken}
 use Rattle.stack_code.specs.Steps.{operator_next, save_next}
-use Rattle.stack_code.specs.Things.{answered_next, builtin_next, cast_if, cast_next, cells_next, change_next, collection, copied_next, done_next, fetch_next, field_loaded, field_stored, get_next, if_exception, loaded, make_for, message_next, name_of_kind, on_exception, platform_next, set_message, set_next, sized_next, stored, text_next}
+use Rattle.stack_code.specs.Things.{answered_next, builtin_next, cast_if, cast_next, cells_next, collection, copied_next, done_next, field_loaded, field_stored, if_exception, make_for, message_next, name_of_kind, on_exception, platform_next, set_message, set_next, sized_next, stored, text_next}
 use Rattle.program_things.specs.Kinds.{cast_fits}
 use Rattle.program_things.specs.Steps.{Takes}
+use Rattle.program_things.specs.Variables.{element, item_fetched, item_got, item_stepped}
 use Rattle.program_things.proofs.Lists.{taken_one, taken_two}
 
 -- the same state with other operands, and in another world
@@ -117,16 +118,16 @@ abbrev at_two : Value → Value → List Value
 at_two list at = list ∷ at ∷ []
 
 pub get_item_is : (c : Config) (list at : Value) (mid rest : List Value) → Takes c.top.stack at mid → Takes mid list rest →
-    get_next S.Item c ≡ loaded S.Item (list ∷ at ∷ []) (with_stack c rest) (λ v d. next d (v ∷ rest))
+    item_got c ≡ element list at (with_stack c rest) (λ v d. next d (v ∷ rest))
 get_item_is c list at mid rest t u =
-    taken_is 2 c.top.stack rest (list ∷ at ∷ []) (λ ps stack. loaded S.Item ps c (λ v d. next d (v ∷ stack))) (taken_two c.top.stack mid rest list at t u)
+    taken_is 2 c.top.stack rest (list ∷ at ∷ []) (λ ps stack. element (first_of ps) (first_of (rest_of ps)) c (λ v d. next d (v ∷ stack))) (taken_two c.top.stack mid rest list at t u)
     ∙ collection_alike (B.List L.Get) list (at ∷ []) c rest _ _ (λ v w. refl)
 
 pub fetch_item_is : (c : Config) (list at : Value) (mid rest : List Value) → c.top.stack ≡ at ∷ mid → mid ≡ list ∷ rest →
-    fetch_next S.Item c ≡ loaded S.Item (list ∷ at ∷ []) (with_stack c rest) (λ v d. next d (v ∷ at ∷ list ∷ rest))
+    item_fetched c ≡ element list at (with_stack c rest) (λ v d. next d (v ∷ at ∷ list ∷ rest))
 fetch_item_is c list at mid rest e f =
     let all : c.top.stack ≡ at ∷ list ∷ rest = e ∙ ap (λ s. at ∷ s) f in
-    taken_is 2 c.top.stack rest (list ∷ at ∷ []) (λ ps stack. loaded S.Item ps c (λ v d. next d (v ∷ d.top.stack))) (ap (λ s. taken 2 s []) all)
+    taken_is 2 c.top.stack rest (list ∷ at ∷ []) (λ ps stack. element (first_of ps) (first_of (rest_of ps)) c (λ v d. next d (v ∷ d.top.stack))) (ap (λ s. taken 2 s []) all)
     ∙ collection_alike (B.List L.Get) list (at ∷ []) c rest _ _ (λ v w. ap (λ s. next (in_world c w) (v ∷ s)) all)
 
 pub set_item_is : (c : Config) (list at value : Value) (under mid rest : List Value) → Takes c.top.stack value under → Takes under at mid → Takes mid list rest →
@@ -137,9 +138,9 @@ set_item_is c list at value under mid rest s t u =
     ∙ collection_alike (B.List L.Set) list (at ∷ value ∷ []) c rest _ _ (λ v w. refl)
 
 pub change_item_is : (kind : StepKind) (n : Number) (c : Config) (list at : Value) (mid rest : List Value) → Takes c.top.stack at mid → Takes mid list rest →
-    change_next kind n S.Item c ≡ loaded S.Item (list ∷ at ∷ []) (with_stack c rest) (λ old d. on_calc (stepped kind.up n old) d (λ new. stored S.Item (list ∷ at ∷ []) new d (λ e. next e (cond kind.before new old ∷ rest))))
+    item_stepped kind n c ≡ element list at (with_stack c rest) (λ old d. on_calc (stepped kind.up n old) d (λ new. stored S.Item (list ∷ at ∷ []) new d (λ e. next e (cond kind.before new old ∷ rest))))
 change_item_is kind n c list at mid rest t u =
-    taken_is 2 c.top.stack rest (list ∷ at ∷ []) (λ ps stack. loaded S.Item ps c (λ old d. on_calc (stepped kind.up n old) d (λ new. stored S.Item ps new d (λ e. next e (cond kind.before new old ∷ stack))))) (taken_two c.top.stack mid rest list at t u)
+    taken_is 2 c.top.stack rest (list ∷ at ∷ []) (λ ps stack. element (first_of ps) (first_of (rest_of ps)) c (λ old d. on_calc (stepped kind.up n old) d (λ new. stored S.Item ps new d (λ e. next e (cond kind.before new old ∷ stack))))) (taken_two c.top.stack mid rest list at t u)
     ∙ collection_alike (B.List L.Get) list (at ∷ []) c rest _ _
     (λ old w. calc_alike (stepped kind.up n old) (in_world c w) rest _ _ (λ new. collection_alike (B.List L.Set) list (at ∷ new ∷ []) (in_world c w) rest _ _ (λ v x. refl)))
 

@@ -10,7 +10,8 @@ use crate::builtins::act_builtin;
 use crate::collections::{act_copied, act_entries, act_filled};
 use crate::ends::refused;
 use crate::moved::Moved;
-use crate::saves::{act_count, act_save};
+use crate::queries::{act_children, act_only, act_parent, act_query};
+use crate::saves::act_save;
 use crate::stores::{act_change, act_set, act_set_own, act_set_static, act_store};
 use crate::things::{
     act_cast, act_cast_exception, act_exception, act_message, act_message_this, act_print,
@@ -49,11 +50,11 @@ pub fn act_value(
         Instr::Not => act_not(alloc, c),
         Instr::Calc(left, op, right) => act_calc(alloc, *left, *op, *right, c),
         Instr::Truth => act_truth(alloc, c),
-        Instr::Get(slot) => act_get(alloc, *slot, c),
-        Instr::Fetch(slot) => act_fetch(alloc, *slot, c),
+        Instr::Get(slot) => act_get(alloc, schema, *slot, c),
+        Instr::Fetch(slot) => act_fetch(alloc, schema, *slot, c),
         Instr::Set(slot) => act_set(alloc, *slot, c),
         Instr::Store(slot) => act_store(*slot, c),
-        Instr::Change(kind, number, slot) => act_change(alloc, *kind, *number, *slot, c),
+        Instr::Change(kind, number, slot) => act_change(alloc, schema, *kind, *number, *slot, c),
         Instr::Builtin(which, count) => act_builtin(alloc, image, ticket, *which, *count, c),
         Instr::Filled(kind, count) => act_filled(alloc, *kind, *count, c),
         Instr::Entries(count) => act_entries(alloc, *count, c),
@@ -69,7 +70,12 @@ pub fn act_value(
         Instr::MessageThis(count) => act_message_this(alloc, *count, c),
         Instr::SetOwn(place) => act_set_own(alloc, *place, c),
         Instr::SetStatic(class, place) => Ok(act_set_static(*class, *place, c)),
-        Instr::Count(counting) => act_count(alloc, counting.get(), c),
+        Instr::Parent(field, goes_on) => act_parent(alloc, schema, *field, *goes_on, c),
+        Instr::Children(object, field, goes_on) => {
+            act_children(alloc, schema, *object, *field, *goes_on, c)
+        }
+        Instr::Only => act_only(alloc, c),
+        Instr::Query(queried, kinds) => act_query(alloc, queried.get(), kinds.as_slice(), c),
         Instr::Save(op, saved) => act_save(alloc, *op, *saved, c),
         Instr::Unbuilt => refused(alloc, c),
         _ => unreachable!(),

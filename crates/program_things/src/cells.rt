@@ -3,7 +3,9 @@
 ghost use Rattle.std.specs.Prelude.{◌≡◌, ◌<◌, ◌+◌, ◌^◌, ◌∷◌, [], cond, slice_index_or, None, IfOk};
 ghost use Rattle.std.specs.Option.{option_copied};
 ghost use Rattle.apex_num.specs.declared.kind.LimitKind.TheVariants.{Alloc};
-ghost use Rattle.apex_meaning.specs.Places.{cell_or_null, setting_units, with_cell};
+ghost use Rattle.apex_meaning.specs.Places.{setting_units, with_cell};
+ghost use Rattle.apex_meaning.specs.Records as reads;
+ghost use Rattle.request_states.specs.Values.{null};
 ghost use Rattle.value_operators.specs.Operators as operators;
 ghost use Rattle.stack_code.specs.declared.code.Slot.TheVariants as S;
 ghost use Rattle.stack_code.specs.Machine as spec;
@@ -16,9 +18,12 @@ use crate::charges::charge;
 use crate::moved::Moved;
 use crate::operands::{next_with, raise, take};
 use crate::stores::chosen;
+use crate::values::calc_next;
 use apex_list::Items;
 use apex_num::{Cell, LimitKind, NoMemory};
+use apex_schema::Schema;
 use platform_errors::Thrown;
+use record_reads::cell_in;
 use stack_code::Config;
 use std::alloc::Global;
 use txn_heap::{Change, Heap, Ref, Thing, Value};
@@ -26,49 +31,6 @@ use typed_program::{Number, StepKind};
 use value_operators::{Calculated, stepped};
 
 // ---- what records know
-
-// A cell; null where the record doesn't know it.
-fn known_value(known: &Items<Option<Cell>>, field: usize) -> Result<Value, NoMemory>
-    ensures { IfOk result (λ v. v ≡ cell_or_null (slice_index_or known.now field None)) }
-{
-    if field >= known.len() {
-        return Ok(Value::Plain(Cell::Null));
-    }
-    match &known.as_slice()[field] {
-        Some(cell) => Ok(Value::Plain(cell.copy()?)),
-        None => Ok(Value::Plain(Cell::Null)),
-    }
-}
-
-fn cell_in(field: usize, thing: Option<&Thing>) -> Result<Option<Value>, NoMemory>
-    ensures { IfOk result (λ v. v ≡ cells.cell_of field (option_copied thing.entry)) }
-{
-    match thing {
-        Some(Thing::Record(known)) => Ok(Some(known_value(&known.cells, field)?)),
-        _ => Ok(None),
-    }
-}
-
-// A cell of the record that a value names; none where it names none and doesn't go on with a null.
-fn cell_value(
-    field: usize,
-    goes_on: bool,
-    on: &Value,
-    heap: &Heap,
-) -> Result<Option<Value>, NoMemory>
-    ensures { IfOk result (λ v. v ≡ cells.cell_read field goes_on on.now heap.now) }
-{
-    match on {
-        Value::Plain(_) => {
-            if goes_on {
-                Ok(Some(Value::Plain(Cell::Null)))
-            } else {
-                Ok(None)
-            }
-        }
-        Value::Object(thing) => cell_in(field, heap.get(*thing)),
-    }
-}
 
 // What a store of a cell costs.
 fn units_of(known: &Items<Option<Cell>>, field: usize) -> u64
@@ -105,51 +67,84 @@ fn setting(field: usize, on: &Value, heap: &Heap) -> Option<(Ref, u64)>
 /// Takes a record and puts its cell.
 pub(crate) fn get_cell(
     alloc: Global,
+    schema: &Schema,
     field: usize,
     goes_on: bool,
     c: &mut Config,
 ) -> Result<Moved, NoMemory>
     requires { c.old.top.pc + 1 < 2 ^ 64 }
-    ensures { IfOk result (λ m. IsStep (things.get_next (S.Cell field goes_on) c.old) m c.new) }
+    ensures { IfOk result (λ m. IsStep (things.get_next schema.now (S.Cell field goes_on) c.old) m c.new) }
 {
     let on = take(&mut c.top.stack);
-    match cell_value(field, goes_on, &on, &c.world.heap)? {
-        Some(value) => next_with(value, c),
-        None => Ok(raise(alloc, Thrown::NullObject, c)),
+    let calculated = cell_in(alloc, schema, field, goes_on, &on, &c.world.heap)?;
+    calc_next(alloc, calculated, c)
+}
+
+// Puts what is read behind the record, or throws.
+fn cell_fetched(
+    alloc: Global,
+    on: Value,
+    calculated: Calculated,
+    c: &mut Config,
+) -> Result<Moved, NoMemory>
+    requires { c.old.top.pc + 1 < 2 ^ 64 }
+    ensures { IfOk result (λ m. IsStep (spec.on_calc calculated c.old (λ v. spec.next c.old (v ∷ on ∷ c.old.top.stack))) m c.new) }
+{
+    match calculated {
+        Calculated::Val(value) => {
+            c.top.stack.push(on)?;
+            next_with(value, c)
+        }
+        Calculated::Fails(thrown) => Ok(raise(alloc, thrown, c)),
     }
 }
 
-// Puts null behind nothing, where the cell goes on with a null.
-fn nothing_fetched(alloc: Global, goes_on: bool, c: &mut Config) -> Result<Moved, NoMemory>
+// Puts the cell of a record that was taken behind it.
+fn fetch_on(
+    alloc: Global,
+    schema: &Schema,
+    field: usize,
+    goes_on: bool,
+    on: Value,
+    c: &mut Config,
+) -> Result<Moved, NoMemory>
     requires { c.old.top.pc + 1 < 2 ^ 64 }
-    ensures { IfOk result (λ m. IsStep (things.null_loaded goes_on c.old (λ v d. spec.next d (v ∷ d.top.stack))) m c.new) }
+    ensures { IfOk result (λ m. IsStep (spec.on_calc (reads.cell_in schema.now field goes_on on c.old.world.heap) c.old (λ v. spec.next c.old (v ∷ on ∷ c.old.top.stack))) m c.new) }
 {
-    if goes_on {
-        next_with(Value::Plain(Cell::Null), c)
-    } else {
-        Ok(raise(alloc, Thrown::NullObject, c))
-    }
+    let calculated = cell_in(alloc, schema, field, goes_on, &on, &c.world.heap)?;
+    cell_fetched(alloc, on, calculated, c)
+}
+
+// Puts the cell of a null where there is no operand.
+fn fetch_null(
+    alloc: Global,
+    schema: &Schema,
+    field: usize,
+    goes_on: bool,
+    c: &mut Config,
+) -> Result<Moved, NoMemory>
+    requires { c.old.top.pc + 1 < 2 ^ 64 }
+    ensures { IfOk result (λ m. IsStep (spec.on_calc (reads.cell_in schema.now field goes_on null c.old.world.heap) c.old (λ v. spec.next c.old (v ∷ c.old.top.stack))) m c.new) }
+{
+    let nothing = Value::Plain(Cell::Null);
+    let calculated = cell_in(alloc, schema, field, goes_on, &nothing, &c.world.heap)?;
+    calc_next(alloc, calculated, c)
 }
 
 /// Puts the cell of a record behind the record.
 pub(crate) fn fetch_cell(
     alloc: Global,
+    schema: &Schema,
     field: usize,
     goes_on: bool,
     c: &mut Config,
 ) -> Result<Moved, NoMemory>
     requires { c.old.top.pc + 1 < 2 ^ 64 }
-    ensures { IfOk result (λ m. IsStep (things.fetch_next (S.Cell field goes_on) c.old) m c.new) }
+    ensures { IfOk result (λ m. IsStep (things.fetch_next schema.now (S.Cell field goes_on) c.old) m c.new) }
 {
-    let Some(on) = c.top.stack.pop() else {
-        return nothing_fetched(alloc, goes_on, c);
-    };
-    match cell_value(field, goes_on, &on, &c.world.heap)? {
-        Some(value) => {
-            c.top.stack.push(on)?;
-            next_with(value, c)
-        }
-        None => Ok(raise(alloc, Thrown::NullObject, c)),
+    match c.top.stack.pop() {
+        Some(on) => fetch_on(alloc, schema, field, goes_on, on, c),
+        None => fetch_null(alloc, schema, field, goes_on, c),
     }
 }
 
@@ -233,9 +228,29 @@ fn cell_changed(
     }
 }
 
+// Changes a cell that was read, or throws.
+fn change_read(
+    alloc: Global,
+    kind: StepKind,
+    number: Number,
+    field: usize,
+    on: &Value,
+    calculated: Calculated,
+    c: &mut Config,
+) -> Result<Moved, NoMemory>
+    requires { c.old.top.pc + 1 < 2 ^ 64 }
+    ensures { IfOk result (λ m. IsStep (spec.on_calc calculated c.old (λ old. spec.on_calc (operators.stepped kind.up number old) c.old (λ new. things.cell_stored field on.now new c.old (λ e. spec.next e (cond kind.before new old ∷ c.old.top.stack))))) m c.new) }
+{
+    match calculated {
+        Calculated::Val(old) => cell_changed(alloc, kind, number, field, on, old, c),
+        Calculated::Fails(thrown) => Ok(raise(alloc, thrown, c)),
+    }
+}
+
 /// Takes a record, changes a cell of it, and puts its new or its old value.
 pub(crate) fn change_cell(
     alloc: Global,
+    schema: &Schema,
     kind: StepKind,
     number: Number,
     field: usize,
@@ -243,11 +258,9 @@ pub(crate) fn change_cell(
     c: &mut Config,
 ) -> Result<Moved, NoMemory>
     requires { c.old.top.pc + 1 < 2 ^ 64 }
-    ensures { IfOk result (λ m. IsStep (things.change_next kind number (S.Cell field goes_on) c.old) m c.new) }
+    ensures { IfOk result (λ m. IsStep (things.change_next schema.now kind number (S.Cell field goes_on) c.old) m c.new) }
 {
     let on = take(&mut c.top.stack);
-    match cell_value(field, goes_on, &on, &c.world.heap)? {
-        Some(old) => cell_changed(alloc, kind, number, field, &on, old, c),
-        None => Ok(raise(alloc, Thrown::NullObject, c)),
-    }
+    let calculated = cell_in(alloc, schema, field, goes_on, &on, &c.world.heap)?;
+    change_read(alloc, kind, number, field, &on, calculated, c)
 }

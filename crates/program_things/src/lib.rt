@@ -11,6 +11,7 @@ mod ends;
 mod kinds;
 mod moved;
 mod operands;
+mod queries;
 mod records;
 mod saves;
 mod stores;
@@ -26,6 +27,7 @@ pub use kinds::{
 };
 pub use moved::Moved;
 pub use operands::{leave, next, next_with, raise, set_mode, take, take_values};
+pub use queries::query;
 pub use records::{name_records, records_of, rows_in};
-pub use saves::{ask, count, save};
+pub use saves::save;
 pub use variables::put_at;

@@ -1,146 +1,35 @@
-// Counts and saves.
+// Saves.
 
-ghost use Rattle.std.specs.Prelude.{◌≡◌, ◌<◌, ◌+◌, ◌^◌, ◌∷◌, pos, IfOk, OnOk};
+ghost use Rattle.std.specs.Prelude.{◌≡◌, ◌<◌, ◌+◌, ◌^◌, IfOk, OnOk};
 ghost use Rattle.request_states.specs.Statements as statements;
 ghost use Rattle.request_states.specs.Statements.{no_triggers};
-ghost use Rattle.save_meaning.specs.Counts.{count_of as rows_counted};
-ghost use Rattle.save_meaning.specs.Inserts.{rows_of_answer};
 ghost use Rattle.save_measures.specs.Paid.{IsPaid};
 ghost use Rattle.save_stages.specs.Does.{IsSound, HasIds, site_of};
 ghost use Rattle.save_moves.specs.Advances.{Advances};
-ghost use Rattle.apex_rows.specs.declared.query.Question.TheVariants.{Read};
 ghost use Rattle.stack_code.specs.declared.image.Image.{Image as AnyImage};
-ghost use Rattle.stack_code.specs.declared.state.Config.{Config as AnyConfig};
 ghost use Rattle.stack_code.specs.declared.state.Mode.TheVariants as M;
 ghost use Rattle.stack_code.specs.Machine as spec;
 ghost use Rattle.stack_code.specs.Steps as steps;
 ghost use Rattle.program_things.specs.Saves.{BehindSave, IsStepTo};
 ghost use Rattle.program_things.specs.Steps.{IsStep};
 
-use crate::charges::charge;
 use crate::ends::{limited, refused};
 use crate::moved::Moved;
-use crate::operands::{next, raise, set_mode, take};
+use crate::operands::{raise, set_mode, take};
 use crate::records::{name_records, records_of, rows_in};
 use activations::{Abrupt, Raised};
-use apex_list::{Boxed, Items};
-use apex_num::{Cell, LimitKind, NoMemory};
+use apex_list::Items;
+use apex_num::NoMemory;
 use apex_requests::{Op, Ticket};
-use apex_rows::{Answer, Question, Row};
 use apex_schema::Schema;
 use platform_errors::Thrown;
-use row_conditions::holds;
 use save_firings::TriggerTable;
 use save_meaning::TxnState;
 use save_moves::{Stopped, advance, first_run};
 use save_statements::{Manner, RecordOutcome, SaveRun};
-use stack_code::{Config, Counting, Mode};
+use stack_code::{Config, Mode};
 use std::alloc::Global;
-use txn_heap::Value;
-use txn_overlay::Overlay;
 use typed_program::Saved;
-
-// ---- counts
-
-// What is counted, once more.
-fn copy_counting(alloc: Global, counting: &Counting) -> Result<Boxed<Counting>, NoMemory>
-    ensures { IfOk result (λ q. q ≡ counting.now) }
-{
-    let cond = counting.cond.copy()?;
-    let asked = counting.asked.copy()?;
-    let object = counting.object;
-    Boxed::new(
-        alloc,
-        Counting {
-            object,
-            cond,
-            asked,
-        },
-    )
-}
-
-/// A COUNT() begins.
-pub fn act_count(alloc: Global, counting: &Counting, c: &mut Config) -> Result<Moved, NoMemory>
-    requires { c.old.top.pc + 1 < 2 ^ 64 }
-    ensures { IfOk result (λ m. IsStep (steps.count_next counting.now c.old) m c.new) }
-{
-    match charge(LimitKind::Queries, 1, c) {
-        Some(moved) => Ok(moved),
-        None => {
-            let asking = copy_counting(alloc, counting)?;
-            set_mode(c, Mode::Asking(asking));
-            Ok(next(c))
-        }
-    }
-}
-
-/// A COUNT() asks, and the machine waits as it is.
-pub fn ask(alloc: Global, counting: &Counting) -> Result<Moved, NoMemory>
-    ensures { (c : AnyConfig) → IfOk result (λ m. IsStep (spec.Asks (Read counting.now.object counting.now.asked)) m c) }
-{
-    let cond = Boxed::new(alloc, counting.asked.copy()?)?;
-    let object = counting.object;
-    Ok(Moved::Asked(Question::Read { object, cond }))
-}
-
-// The rows that were answered.
-fn rows_of(alloc: Global, answer: Answer) -> Vec<Row>
-    ensures { result.items ≡ rows_of_answer answer }
-{
-    match answer {
-        Answer::Rows(rows) => rows.into_vec(),
-        Answer::Granted => Vec::new(alloc),
-    }
-}
-
-// How many rows a COUNT() finds, where a store answered these.
-fn count_rows(
-    alloc: Global,
-    overlay: &Overlay,
-    counting: &Counting,
-    answered: Vec<Row>,
-) -> Result<i64, NoMemory>
-    ensures { IfOk result (λ n. n ≡ pos (rows_counted overlay.now counting.now.object counting.now.cond answered.items)) }
-{
-    let mut count = 0i32;
-    for row in overlay.merge(counting.object, answered)? {
-        if holds(alloc, &counting.cond, &row)? {
-            count = count.saturating_add(1);
-        }
-    }
-    Ok(count as i64)
-}
-
-// The number of rows is put.
-fn counted_next(n: i64, c: &mut Config) -> Result<Moved, NoMemory>
-    ensures { IfOk result (λ m. IsStep (spec.Goes (spec.in_mode (spec.move c.old c.old.top.pc (Value.Plain (Cell.Whole n) ∷ c.old.top.stack)) M.Running)) m c.new) }
-{
-    c.top.stack.push(Value::Plain(Cell::Whole(n)))?;
-    set_mode(c, Mode::Running);
-    Ok(Moved::Went)
-}
-
-/// A COUNT() has its answer.
-pub fn count(
-    alloc: Global,
-    counting: &Counting,
-    answer: Answer,
-    c: &mut Config,
-) -> Result<Moved, NoMemory>
-    ensures { IfOk result (λ m. IsStep (steps.counted counting.now answer c.old) m c.new) }
-{
-    match charge(LimitKind::Rows, 1, c) {
-        Some(moved) => Ok(moved),
-        None => {
-            let overlay = c.world.txn.overlay.overlay();
-            let rows = rows_of(alloc, answer);
-            let n = count_rows(alloc, overlay, counting, rows)?;
-            counted_next(n, c)
-        }
-    }
-}
-
-// ---- saves
 
 // On with the save of records, for code in its mode, or with what is thrown where there is a null among them.
 fn save_next(

@@ -8,6 +8,7 @@ ghost use Rattle.stack_code.specs.declared.code.Slot.TheVariants as S;
 ghost use Rattle.stack_code.specs.Machine as spec;
 ghost use Rattle.stack_code.specs.Things as things;
 ghost use Rattle.program_things.specs.Steps.{IsStep};
+ghost use Rattle.program_things.specs.Variables.{element, field_stepped, item_stepped, local_changed, static_changed};
 
 use crate::cells::{change_cell, set_cell};
 use crate::collections::collect;
@@ -15,6 +16,7 @@ use crate::moved::Moved;
 use crate::operands::{next, next_with, raise, take};
 use crate::variables::{field_value, instance_named, local_at, put_at, static_value};
 use apex_num::NoMemory;
+use apex_schema::Schema;
 use builtin_table::{Builtin, ListMethod};
 use platform_errors::Thrown;
 use stack_code::{Config, Slot};
@@ -166,7 +168,7 @@ fn change_local(
     c: &mut Config,
 ) -> Result<Moved, NoMemory>
     requires { c.old.top.pc + 1 < 2 ^ 64 }
-    ensures { IfOk result (λ m. IsStep (things.change_next kind number (S.Local slot) c.old) m c.new) }
+    ensures { IfOk result (λ m. IsStep (local_changed kind number slot c.old) m c.new) }
 {
     let old = local_at(&c.top.here.locals, slot)?;
     match stepped(kind.up, number, &old) {
@@ -187,7 +189,7 @@ fn change_static(
     c: &mut Config,
 ) -> Result<Moved, NoMemory>
     requires { c.old.top.pc + 1 < 2 ^ 64 }
-    ensures { IfOk result (λ m. IsStep (things.change_next kind number (S.Static class place) c.old) m c.new) }
+    ensures { IfOk result (λ m. IsStep (static_changed kind number class place c.old) m c.new) }
 {
     let old = static_value(&c.world.statics, class, place)?;
     match stepped(kind.up, number, &old) {
@@ -228,7 +230,7 @@ fn change_field(
     c: &mut Config,
 ) -> Result<Moved, NoMemory>
     requires { c.old.top.pc + 1 < 2 ^ 64 }
-    ensures { IfOk result (λ m. IsStep (things.change_next kind number (S.Field place) c.old) m c.new) }
+    ensures { IfOk result (λ m. IsStep (field_stepped kind number place c.old) m c.new) }
 {
     let on = take(&mut c.top.stack);
     match field_value(place, &on, &c.world.heap)? {
@@ -259,7 +261,7 @@ fn item_changed(
     }
 }
 
-fn item_stepped(
+fn step_item(
     alloc: Global,
     kind: StepKind,
     number: Number,
@@ -268,7 +270,7 @@ fn item_stepped(
     c: &mut Config,
 ) -> Result<Moved, NoMemory>
     requires { c.old.top.pc + 1 < 2 ^ 64 }
-    ensures { IfOk result (λ m. IsStep (things.loaded S.Item (on.now ∷ at ∷ []) c.old (λ old d. spec.on_calc (operators.stepped kind.up number old) d (λ new. things.stored S.Item (on.now ∷ at ∷ []) new d (λ e. spec.next e (cond kind.before new old ∷ c.old.top.stack))))) m c.new) }
+    ensures { IfOk result (λ m. IsStep (element on.now at c.old (λ old d. spec.on_calc (operators.stepped kind.up number old) d (λ new. things.stored S.Item (on.now ∷ at ∷ []) new d (λ e. spec.next e (cond kind.before new old ∷ c.old.top.stack))))) m c.new) }
 {
     match collect(alloc, Builtin::List(ListMethod::Get), on, &[at.copy()?], c)? {
         Ok(old) => item_changed(alloc, kind, number, on, at, old, c),
@@ -283,29 +285,30 @@ fn change_item(
     c: &mut Config,
 ) -> Result<Moved, NoMemory>
     requires { c.old.top.pc + 1 < 2 ^ 64 }
-    ensures { IfOk result (λ m. IsStep (things.change_next kind number S.Item c.old) m c.new) }
+    ensures { IfOk result (λ m. IsStep (item_stepped kind number c.old) m c.new) }
 {
     let at = take(&mut c.top.stack);
     let on = take(&mut c.top.stack);
-    item_stepped(alloc, kind, number, &on, at, c)
+    step_item(alloc, kind, number, &on, at, c)
 }
 
 /// `++` or `--`: takes the parts of a variable, changes it, and puts its new or its old value.
 pub fn act_change(
     alloc: Global,
+    schema: &Schema,
     kind: StepKind,
     number: Number,
     slot: Slot,
     c: &mut Config,
 ) -> Result<Moved, NoMemory>
     requires { c.old.top.pc + 1 < 2 ^ 64 }
-    ensures { IfOk result (λ m. IsStep (things.change_next kind number slot c.old) m c.new) }
+    ensures { IfOk result (λ m. IsStep (things.change_next schema.now kind number slot c.old) m c.new) }
 {
     match slot {
         Slot::Local(slot) => change_local(alloc, kind, number, slot, c),
         Slot::Static(class, place) => change_static(alloc, kind, number, class, place, c),
         Slot::Field(place) => change_field(alloc, kind, number, place, c),
         Slot::Item => change_item(alloc, kind, number, c),
-        Slot::Cell(field, goes_on) => change_cell(alloc, kind, number, field, goes_on, c),
+        Slot::Cell(field, goes_on) => change_cell(alloc, schema, kind, number, field, goes_on, c),
     }
 }

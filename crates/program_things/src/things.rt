@@ -205,7 +205,12 @@ fn record_next(
         Some(moved) => Ok(moved),
         None => {
             let cells = new_cells(alloc, schema.objects.get(object), fields, values)?;
-            made_next(Thing::Record(Record { object, cells }), c)
+            let record = Record {
+                object,
+                cells,
+                selected: None,
+            };
+            made_next(Thing::Record(record), c)
         }
     }
 }

@@ -11,7 +11,7 @@ ghost use Rattle.stack_code.specs.declared.code.Slot.TheVariants as S;
 ghost use Rattle.stack_code.specs.Machine as spec;
 ghost use Rattle.stack_code.specs.Things as things;
 ghost use Rattle.program_things.specs.Steps.{IsStep};
-ghost use Rattle.program_things.specs.Variables.{field_at, field_of, instance_at, is_instance};
+ghost use Rattle.program_things.specs.Variables.{element, field_at, field_fetched, field_got, field_of, instance_at, is_instance, item_fetched, item_got};
 
 use crate::cells::{fetch_cell, get_cell};
 use crate::collections::collect;
@@ -19,6 +19,7 @@ use crate::moved::Moved;
 use crate::operands::{next_with, raise, take};
 use apex_list::Items;
 use apex_num::{Cell, NoMemory};
+use apex_schema::Schema;
 use builtin_table::{Builtin, ListMethod};
 use platform_errors::Thrown;
 use stack_code::{Config, Slot};
@@ -137,7 +138,7 @@ fn get_static(class: usize, place: usize, c: &mut Config) -> Result<Moved, NoMem
 
 fn get_field(alloc: Global, place: usize, c: &mut Config) -> Result<Moved, NoMemory>
     requires { c.old.top.pc + 1 < 2 ^ 64 }
-    ensures { IfOk result (λ m. IsStep (things.get_next (S.Field place) c.old) m c.new) }
+    ensures { IfOk result (λ m. IsStep (field_got place c.old) m c.new) }
 {
     let on = take(&mut c.top.stack);
     match field_value(place, &on, &c.world.heap)? {
@@ -148,7 +149,7 @@ fn get_field(alloc: Global, place: usize, c: &mut Config) -> Result<Moved, NoMem
 
 fn item_next(alloc: Global, on: &Value, at: Value, c: &mut Config) -> Result<Moved, NoMemory>
     requires { c.old.top.pc + 1 < 2 ^ 64 }
-    ensures { IfOk result (λ m. IsStep (things.loaded S.Item (on.now ∷ at ∷ []) c.old (λ v d. spec.next d (v ∷ c.old.top.stack))) m c.new) }
+    ensures { IfOk result (λ m. IsStep (element on.now at c.old (λ v d. spec.next d (v ∷ c.old.top.stack))) m c.new) }
 {
     match collect(alloc, Builtin::List(ListMethod::Get), on, &[at], c)? {
         Ok(value) => next_with(value, c),
@@ -158,7 +159,7 @@ fn item_next(alloc: Global, on: &Value, at: Value, c: &mut Config) -> Result<Mov
 
 fn get_item(alloc: Global, c: &mut Config) -> Result<Moved, NoMemory>
     requires { c.old.top.pc + 1 < 2 ^ 64 }
-    ensures { IfOk result (λ m. IsStep (things.get_next S.Item c.old) m c.new) }
+    ensures { IfOk result (λ m. IsStep (item_got c.old) m c.new) }
 {
     let at = take(&mut c.top.stack);
     let on = take(&mut c.top.stack);
@@ -166,22 +167,27 @@ fn get_item(alloc: Global, c: &mut Config) -> Result<Moved, NoMemory>
 }
 
 /// Takes the parts of a variable and puts its value.
-pub fn act_get(alloc: Global, slot: Slot, c: &mut Config) -> Result<Moved, NoMemory>
+pub fn act_get(
+    alloc: Global,
+    schema: &Schema,
+    slot: Slot,
+    c: &mut Config,
+) -> Result<Moved, NoMemory>
     requires { c.old.top.pc + 1 < 2 ^ 64 }
-    ensures { IfOk result (λ m. IsStep (things.get_next slot c.old) m c.new) }
+    ensures { IfOk result (λ m. IsStep (things.get_next schema.now slot c.old) m c.new) }
 {
     match slot {
         Slot::Local(slot) => get_local(slot, c),
         Slot::Static(class, place) => get_static(class, place, c),
         Slot::Field(place) => get_field(alloc, place, c),
         Slot::Item => get_item(alloc, c),
-        Slot::Cell(field, goes_on) => get_cell(alloc, field, goes_on, c),
+        Slot::Cell(field, goes_on) => get_cell(alloc, schema, field, goes_on, c),
     }
 }
 
 fn fetch_field(alloc: Global, place: usize, c: &mut Config) -> Result<Moved, NoMemory>
     requires { c.old.top.pc + 1 < 2 ^ 64 }
-    ensures { IfOk result (λ m. IsStep (things.fetch_next (S.Field place) c.old) m c.new) }
+    ensures { IfOk result (λ m. IsStep (field_fetched place c.old) m c.new) }
 {
     let Some(on) = c.top.stack.pop() else {
         return Ok(raise(alloc, Thrown::NullObject, c));
@@ -196,9 +202,9 @@ fn fetch_field(alloc: Global, place: usize, c: &mut Config) -> Result<Moved, NoM
 }
 
 // Puts a list, a position in it, and the element there.
-fn item_fetched(alloc: Global, on: Value, at: Value, c: &mut Config) -> Result<Moved, NoMemory>
+fn put_item(alloc: Global, on: Value, at: Value, c: &mut Config) -> Result<Moved, NoMemory>
     requires { c.old.top.pc + 1 < 2 ^ 64 }
-    ensures { IfOk result (λ m. IsStep (things.loaded S.Item (on ∷ at ∷ []) c.old (λ v d. spec.next d (v ∷ at ∷ on ∷ c.old.top.stack))) m c.new) }
+    ensures { IfOk result (λ m. IsStep (element on at c.old (λ v d. spec.next d (v ∷ at ∷ on ∷ c.old.top.stack))) m c.new) }
 {
     match collect(alloc, Builtin::List(ListMethod::Get), &on, &[at.copy()?], c)? {
         Ok(value) => {
@@ -212,7 +218,7 @@ fn item_fetched(alloc: Global, on: Value, at: Value, c: &mut Config) -> Result<M
 
 fn fetch_item(alloc: Global, c: &mut Config) -> Result<Moved, NoMemory>
     requires { c.old.top.pc + 1 < 2 ^ 64 }
-    ensures { IfOk result (λ m. IsStep (things.fetch_next S.Item c.old) m c.new) }
+    ensures { IfOk result (λ m. IsStep (item_fetched c.old) m c.new) }
 {
     let Some(at) = c.top.stack.pop() else {
         return Ok(raise(alloc, Thrown::NullObject, c));
@@ -220,19 +226,24 @@ fn fetch_item(alloc: Global, c: &mut Config) -> Result<Moved, NoMemory>
     let Some(on) = c.top.stack.pop() else {
         return Ok(raise(alloc, Thrown::NullObject, c));
     };
-    item_fetched(alloc, on, at, c)
+    put_item(alloc, on, at, c)
 }
 
 /// Puts the value of a variable behind its parts, which stay.
-pub fn act_fetch(alloc: Global, slot: Slot, c: &mut Config) -> Result<Moved, NoMemory>
+pub fn act_fetch(
+    alloc: Global,
+    schema: &Schema,
+    slot: Slot,
+    c: &mut Config,
+) -> Result<Moved, NoMemory>
     requires { c.old.top.pc + 1 < 2 ^ 64 }
-    ensures { IfOk result (λ m. IsStep (things.fetch_next slot c.old) m c.new) }
+    ensures { IfOk result (λ m. IsStep (things.fetch_next schema.now slot c.old) m c.new) }
 {
     match slot {
         Slot::Local(slot) => get_local(slot, c),
         Slot::Static(class, place) => get_static(class, place, c),
         Slot::Field(place) => fetch_field(alloc, place, c),
         Slot::Item => fetch_item(alloc, c),
-        Slot::Cell(field, goes_on) => fetch_cell(alloc, field, goes_on, c),
+        Slot::Cell(field, goes_on) => fetch_cell(alloc, schema, field, goes_on, c),
     }
 }

@@ -1,6 +1,6 @@
 -- Each step of a checked image's machine takes the weight down.
-use Rattle.std.proofs.Common.{◌≡◌, ℕ, ◌+◌, Bool, true, false, cond, List, [], ◌∷◌, length, drop, pos, Option, Some, None, refl, arith, le_refl}
-use Rattle.std.specs.Prelude.{leb, slice_get}
+use Rattle.std.proofs.Common.{◌≡◌, ℕ, ◌+◌, ◌*◌, ◌≤◌, true, false, cond, List, [], ◌∷◌, length, drop, pos, Option, Some, None, refl, sym, subst, arith, le_refl}
+use Rattle.std.specs.Prelude.{slice_get}
 use Rattle.activations.specs.declared.abrupt.Abrupt.{Abrupt}
 use Rattle.activations.specs.declared.abrupt.Abrupt.TheVariants.{Throws, Returns, Breaks, Continues}
 use Rattle.activations.specs.declared.abrupt.Raised.TheVariants.{Platform, Made}
@@ -8,27 +8,31 @@ use Rattle.activations.specs.declared.here.Here.{Here}
 use Rattle.request_states.specs.Values.{null}
 use Rattle.request_states.specs.Statements.{records_of}
 use Rattle.apex_num.specs.declared.cell.Cell.TheVariants as C
-use Rattle.apex_num.specs.declared.kind.LimitKind.TheVariants as K
-use Rattle.apex_rows.specs.declared.query.Answer.{Answer}
+use Rattle.apex_rows.specs.declared.query.Bind.{Bind}
+use Rattle.apex_schema.specs.declared.schema.Schema.{Schema}
 use Rattle.heap_methods.specs.Making.{copied}
-use Rattle.apex_meaning.specs.Collections.{collection, message_among}
+use Rattle.apex_meaning.specs.Collections.{collection, items_of, message_among}
 use Rattle.apex_meaning.specs.Exceptions.{is_built_in}
-use Rattle.apex_meaning.specs.Statements.{items_of}
-use Rattle.limit_meter.specs.Charges.{count_of, limit_of}
+use Rattle.apex_meaning.specs.Queries.{Bound, Has, Throws as Fails, all_bound}
+use Rattle.apex_meaning.specs.Records.{children_in, only, parent_in}
 use Rattle.platform_errors.specs.declared.thrown.Thrown.TheVariants.{NullObject}
-use Rattle.save_meaning.specs.Counts.{count_of as rows_counted}
-use Rattle.save_meaning.specs.Inserts.{rows_of_answer}
+use Rattle.query_meaning.specs.Queries.{Answered, Counted, Listed}
+use Rattle.query_moves.specs.Moves as Query
+use Rattle.query_moves.specs.declared.run.QueryRun.{QueryRun}
+use Rattle.query_records.specs.Records.{records_made}
+use Rattle.query_records.specs.declared.shape.FoundShape.{FoundShape}
 use Rattle.save_meaning.specs.Sites.{Site}
+use Rattle.save_meaning.specs.declared.run.TxnState.{TxnState}
 use Rattle.save_measures.specs.Paid.{IsPaid}
+use Rattle.txn_heap.specs.declared.thing.Thing.{Thing}
 use Rattle.txn_heap.specs.declared.thing.Thing.TheVariants as T
 use Rattle.txn_heap.specs.declared.thing.Value.{Value}
 use Rattle.txn_heap.specs.declared.thing.Value.TheVariants.{Plain, Object}
 use Rattle.value_operators.specs.Operators.{converted, negated, truth}
 use Rattle.stack_code.specs.Checked.{IsChecked, is_charging}
-use Rattle.stack_code.specs.Machine.{Goes, charged_if, in_mode, instrs_at, move, next, raise, taken}
-use Rattle.stack_code.specs.Steps.{act, count_next, counted, save_next, step, thrown}
+use Rattle.stack_code.specs.Machine.{Next, Goes, Asks, Over, in_mode, instrs_at, move, next, raise, taken, with_heap, with_txn}
+use Rattle.stack_code.specs.Steps.{act, answered_by, query_next, querying, save_next, step, step_in, thrown}
 use Rattle.stack_code.specs.Things.{is_declared}
-use Rattle.stack_code.specs.declared.code.Counting.{Counting}
 use Rattle.stack_code.specs.declared.code.Instr.{Instr}
 use Rattle.stack_code.specs.declared.code.Instr.TheVariants as I
 use Rattle.stack_code.specs.declared.image.Image.{Image}
@@ -42,12 +46,13 @@ use Rattle.stack_code.specs.declared.state.Mode.TheVariants as M
 use Rattle.stack_code.specs.declared.state.Waiting.{Waiting}
 use Rattle.stack_code.specs.declared.state.World.{World}
 use Rattle.program_weights.specs.Keeps.{AreOpen, AreWaiting, Falls, Stands}
-use Rattle.program_weights.specs.Weights.{at, begun, handlers_load, left, round, waiting_load, weight}
+use Rattle.program_weights.specs.Weights.{begun, frame_load, handlers_load, left, round, top_load, waiting_load, weight}
 use Rattle.program_weights.proofs.Codes.{free_at, full_some, later}
 use Rattle.program_weights.proofs.Controls as Does
 use Rattle.program_weights.proofs.Leaving.{leaving_falls}
-use Rattle.program_weights.proofs.Lefts.{charged_left, charged_paid, charging, pays}
+use Rattle.program_weights.proofs.Lefts.{pays}
 use Rattle.program_weights.proofs.Places.{leaves, leaves_end, leaves_free, next_free, raise_free, start}
+use Rattle.program_weights.proofs.Queries.{Charged, Only, move_more, only_paid}
 use Rattle.program_weights.proofs.Values as V
 use Rattle.program_weights.proofs.Values.{Kept, running}
 
@@ -80,15 +85,13 @@ module _ (site : Site) (image : Image) (checked : IsChecked image) (body : BodyA
 
   -- ---- queries and saves
 
-  count_falls : (q : _) → slice_get instrs pc ≡ Some (I.Count q) → (here : Here) (s : List Value) → Falls image N (count_next q (running body pc hs ws here s w0))
-  count_falls q e here s =
-      let x = free_at (begun image) pc instrs (I.Count q) e refl in
+  query_falls : (q : _) (kinds : _) → slice_get instrs pc ≡ Some (I.Query q kinds) → (binds : Bound (List Bind)) (here : Here) (s stack : List Value) → Falls image N (query_next q binds (running body pc hs ws here s w0) stack)
+  query_falls q kinds e (Fails t) here s stack = raises (I.Query q kinds) e refl t here s w0 kept
+  query_falls q kinds e (Has binds) here s stack =
+      let x = free_at (begun image) pc instrs (I.Query q kinds) e refl in
       let y = later (begun image) (pc + 1) (pc + 1) instrs (le_refl (pc + 1)) in
       let z = full_some (begun image) (drop (pc + 1) instrs) in
-      V.charged_falls image body pc hs ws L N (goes (I.Count q) e refl) (raises (I.Count q) e refl) K.Queries 1 here s w0 _ kept (λ v p.
-      let l = p.1 in
-      let c = pays 0 (left image v) (left image w0) (round image) (((at image instrs (pc + 1) + handlers_load image instrs hs) + 2) + waiting_load image ws) ((at image instrs pc + handlers_load image instrs hs) + waiting_load image ws) (omega arith) (omega arith) in
-      (record { checked = checked; top = o; below = a; paid = p.0 }, c))
+      (record { checked = checked; top = o; below = a; paid = paid }, omega arith)
 
   save_falls : (op : _) (what : _) → slice_get instrs pc ≡ Some (I.Save op what) → (r : Option (ℕ × List ℕ)) (here : Here) (s stack : List Value) → Falls image N (save_next op r (running body pc hs ws here s w0) stack)
   save_falls op what e None here s stack = leaves_free image checked body pc hs ws w0 a (I.Save op what) e refl hs o (omega arith) (Throws (Platform NullObject)) (pc + 1) here [] w0 kept
@@ -129,11 +132,11 @@ module _ (site : Site) (image : Image) (checked : IsChecked image) (body : BodyA
   act_falls (I.Either n) e here s =
       V.top_falls image body pc hs ws L N (goes (I.Either n) e refl) (raises (I.Either n) e refl) s _ (λ v rest. Does.either_falls image checked body pc hs ws w0 a o paid n e (truth v) here s rest)
   act_falls (I.Back n) e here s = Does.back_falls image checked body pc hs ws w0 a o paid n e here s
-  act_falls (I.Get slot) e here s = V.get_falls image body pc hs ws L N (goes (I.Get slot) e refl) (raises (I.Get slot) e refl) slot here s w0 kept
-  act_falls (I.Fetch slot) e here s = V.fetch_falls image body pc hs ws L N (goes (I.Fetch slot) e refl) (raises (I.Fetch slot) e refl) slot here s w0 kept
+  act_falls (I.Get slot) e here s = V.get_falls image body pc hs ws L N (goes (I.Get slot) e refl) (raises (I.Get slot) e refl) site.schema slot here s w0 kept
+  act_falls (I.Fetch slot) e here s = V.fetch_falls image body pc hs ws L N (goes (I.Fetch slot) e refl) (raises (I.Fetch slot) e refl) site.schema slot here s w0 kept
   act_falls (I.Set slot) e here s = V.set_falls image body pc hs ws L N (goes (I.Set slot) e refl) (raises (I.Set slot) e refl) slot here s w0 kept
   act_falls (I.Store x) e here s = V.top_falls image body pc hs ws L N (goes (I.Store x) e refl) (raises (I.Store x) e refl) s _ (λ v rest. goes (I.Store x) e refl _ s rest w0 kept)
-  act_falls (I.Change kind n slot) e here s = V.change_falls image body pc hs ws L N (goes (I.Change kind n slot) e refl) (raises (I.Change kind n slot) e refl) kind n slot here s w0 kept
+  act_falls (I.Change kind n slot) e here s = V.change_falls image body pc hs ws L N (goes (I.Change kind n slot) e refl) (raises (I.Change kind n slot) e refl) site.schema kind n slot here s w0 kept
   act_falls (I.Prepare k) e here s = Does.prepare_at_falls image checked body pc hs ws w0 a o paid k e here s
   act_falls (I.Builtin which n) e here s =
       V.builtin_falls image body pc hs ws L N (goes (I.Builtin which n) e refl) (raises (I.Builtin which n) e refl) site.ticket which (taken n s []).0 (taken n s []).1 here s w0 kept
@@ -192,7 +195,15 @@ module _ (site : Site) (image : Image) (checked : IsChecked image) (body : BodyA
   act_falls I.Close e here s = Does.close_falls image checked body pc hs ws w0 a o paid e hs refl here s
   act_falls I.Hold e here s = Does.hold_falls image checked body pc hs ws w0 a o paid e hs refl here s
   act_falls I.Resume e here s = Does.resume_falls image checked body pc hs ws w0 a o paid e hs refl here s
-  act_falls (I.Count q) e here s = count_falls q e here s
+  act_falls (I.Parent field goes_on) e here s =
+      V.top_falls image body pc hs ws L N (goes (I.Parent field goes_on) e refl) (raises (I.Parent field goes_on) e refl) s _ (λ v rest.
+      V.converted_falls image body pc hs ws L N (goes (I.Parent field goes_on) e refl) (raises (I.Parent field goes_on) e refl) (parent_in site.schema field goes_on v w0.heap) rest here s w0 kept)
+  act_falls (I.Children object field goes_on) e here s =
+      V.top_falls image body pc hs ws L N (goes (I.Children object field goes_on) e refl) (raises (I.Children object field goes_on) e refl) s _ (λ v rest.
+      V.converted_falls image body pc hs ws L N (goes (I.Children object field goes_on) e refl) (raises (I.Children object field goes_on) e refl) (children_in site.schema object field goes_on v w0.heap) rest here s w0 kept)
+  act_falls I.Only e here s =
+      V.top_falls image body pc hs ws L N (goes I.Only e refl) (raises I.Only e refl) s _ (λ v rest. V.converted_falls image body pc hs ws L N (goes I.Only e refl) (raises I.Only e refl) (only v w0.heap) rest here s w0 kept)
+  act_falls (I.Query q kinds) e here s = query_falls q kinds e (all_bound kinds (taken (length kinds) s []).0 w0.heap) here s (taken (length kinds) s []).1
   act_falls (I.Save op what) e here s =
       V.top_falls image body pc hs ws L N (goes (I.Save op what) e refl) (raises (I.Save op what) e refl) s _ (λ v rest. save_falls op what e (records_of what v w0.heap) here s rest)
   act_falls I.Unbuilt e here s = tt
@@ -201,25 +212,9 @@ module _ (site : Site) (image : Image) (checked : IsChecked image) (body : BodyA
   running_falls None e here s = leaves_end image checked body pc hs ws w0 a e (Returns null) here [] paid
   running_falls (Some i) e here s = act_falls i e here s
 
--- a COUNT() that has its answer
-counted_falls : (image : Image) (q : Counting) (b : Answer) (body : BodyAt) (pc : ℕ) (hs : List Handler) (ws : List Waiting) (here : Here) (s : List Value) (w : World) → IsChecked image → AreOpen (instrs_at image body) hs → AreWaiting image ws → IsPaid w.txn →
-    Falls image (weight image (record { top = record { body = body; pc = pc; here = here; stack = s; handlers = hs }; mode = M.Counting q b; below = ws; world = w }))
-    (counted q b (record { top = record { body = body; pc = pc; here = here; stack = s; handlers = hs }; mode = M.Counting q b; below = ws; world = w }))
-counted_falls image q b body pc hs ws here s w checked o a p = by_room (leb (count_of w.txn.meter K.Rows + 1) (limit_of K.Rows))
-  where
-    c : Config
-    c = record { top = record { body = body; pc = pc; here = here; stack = s; handlers = hs }; mode = M.Counting q b; below = ws; world = w }
-
-    by_room : (t : Bool) → Falls image (weight image c) (charged_if t K.Rows 1 c (λ d. Goes (in_mode (move d d.top.pc (Plain (C.Whole (pos (rows_counted d.world.txn.overlay.now q.object q.cond (rows_of_answer b)))) ∷ d.top.stack)) M.Running)))
-    by_room true =
-        let l = charged_left image K.Rows 1 w p in
-        let z = pays 0 (left image (charging K.Rows 1 w)) (left image w) (round image) ((at image (instrs_at image body) pc + handlers_load image (instrs_at image body) hs) + waiting_load image ws) (((at image (instrs_at image body) pc + handlers_load image (instrs_at image body) hs) + 1) + waiting_load image ws) (omega arith) (omega arith) in
-        (record { checked = checked; top = o; below = a; paid = charged_paid K.Rows 1 w p }, z)
-    by_room false = tt
-
--- a state that neither asks nor saves
+-- a state that neither queries nor saves
 abbrev pub IsCalm : Mode → Type 0
-IsCalm (M.Asking q) = ⊥
+IsCalm (M.Querying shape run) = ⊥
 IsCalm (M.Saving places run) = ⊥
 IsCalm _ = Unit {0}
 
@@ -229,10 +224,63 @@ calm_falls : (site : Site) (image : Image) (mode : Mode) (body : BodyAt) (pc : �
     (step site image (record { top = record { body = body; pc = pc; here = here; stack = s; handlers = hs }; mode = mode; below = ws; world = w }))
 calm_falls site image M.Running body pc hs ws here s w calm st = running_falls site image st.checked body pc hs ws w st.below st.top st.paid (slice_get (instrs_at image body) pc) refl here s
 calm_falls site image (M.Leaving why) body pc hs ws here s w calm st = leaving_falls site image st.checked why hs body pc ws here s w st.top st.below st.paid
-calm_falls site image (M.Asking q) body pc hs ws here s w calm st = absurd calm
-calm_falls site image (M.Counting q b) body pc hs ws here s w calm st = counted_falls image q b body pc hs ws here s w st.checked st.top st.below st.paid
+calm_falls site image (M.Querying shape run) body pc hs ws here s w calm st = absurd calm
 calm_falls site image (M.Saving places run) body pc hs ws here s w calm st = absurd calm
 
--- a step of a state that stands, and neither asks nor saves, takes the weight down, and a state behind it stands
+-- a step of a state that stands, and neither queries nor saves, takes the weight down, and a state behind it stands
 pub falls : (site : Site) (image : Image) (c : Config) → IsCalm c.mode → Stands image c → Falls image (weight image c) (step site image c)
 falls site image c calm st = calm_falls site image c.mode c.top.body c.top.pc c.top.handlers c.below c.top.here c.top.stack c.world calm st
+
+-- ---- queries
+
+-- whether a query is over
+abbrev pub ended : Mode → ℕ
+ended (M.Querying shape run) = 0
+ended _ = 1
+
+-- behind a move of a query the machine stands with no more weight than before, and with less where the query is over
+abbrev pub Queried : Image → ℕ → Next → Type 0
+Queried image n (Goes d) = Stands image d × (weight image d + ended d.mode ≤ n)
+Queried image n (Asks q) = Unit {0}
+Queried image n (Over r) = Unit {0}
+
+module _ (image : Image) (shape : FoundShape) (c : Config) (stands : Stands image c) where
+  abbrev before : ℕ
+  before = left image c.world * round image + ((frame_load image c.top + 2) + waiting_load image c.below)
+
+  left_less : (v : TxnState) → Only c.world.txn v → left image (record (c.world) { txn = v }) ≤ left image c.world
+  left_less v h =
+      let x = h.more.steps in
+      let y = h.more.alloc in omega arith
+
+  -- with another stack and other things, at the same place
+  behind : (s : List Value) (heap : List Thing) (v : TxnState) → Only c.world.txn v →
+      Queried image before (Goes (in_mode (with_heap (move (with_txn c v) c.top.pc s) heap) M.Running))
+  behind s heap v h =
+      let l = left_less v h in
+      let p = pays 0 (left image (record (c.world) { txn = v })) (left image c.world) (round image) (frame_load image c.top + waiting_load image c.below) ((frame_load image c.top + 2) + waiting_load image c.below) (omega arith) (omega arith) in
+      (record { checked = stands.checked; top = stands.top; below = stands.below; paid = only_paid c.world.txn v stands.paid h }, omega arith)
+
+  answered_falls : (schema : Schema) (a : Answered) (v : TxnState) → Only c.world.txn v → Queried image before (Goes (in_mode (answered_by schema shape a (with_txn c v)) M.Running))
+  answered_falls schema (Counted n) v h = behind (Plain (C.Whole (pos n)) ∷ c.top.stack) c.world.heap v h
+  answered_falls schema (Listed found) v h =
+      let made = records_made schema shape found c.world.heap in behind (made.0 ∷ c.top.stack) made.1 v h
+
+  moved_falls : (schema : Schema) (m : Query.Move) → Charged c.world.txn m → Queried image before (querying schema shape m c)
+  moved_falls schema (Query.Goes run v) h =
+      let l = left_less v h in
+      let p = pays 0 (left image (record (c.world) { txn = v })) (left image c.world) (round image) ((frame_load image c.top + 2) + waiting_load image c.below) (((frame_load image c.top + 2) + waiting_load image c.below) + 1) (omega arith) (omega arith) in
+      (record { checked = stands.checked; top = stands.top; below = stands.below; paid = only_paid c.world.txn v stands.paid h }, omega arith)
+  moved_falls schema (Query.Asks q) h = tt
+  moved_falls schema (Query.Ends answer v) h = answered_falls schema answer v h
+  moved_falls schema (Query.Throws why v) h =
+      let l = left_less v h in
+      let p = pays 0 (left image (record (c.world) { txn = v })) (left image c.world) (round image) ((handlers_load image (instrs_at image c.top.body) c.top.handlers + 1) + waiting_load image c.below) ((frame_load image c.top + 2) + waiting_load image c.below) (omega arith) (omega arith) in
+      (record { checked = stands.checked; top = stands.top; below = stands.below; paid = only_paid c.world.txn v stands.paid h }, omega arith)
+  moved_falls schema (Query.Halts k n v) h = tt
+
+-- a step of a state that stands and queries
+pub querying_falls : (site : Site) (image : Image) (shape : FoundShape) (run : QueryRun) (c : Config) → c.mode ≡ M.Querying shape run → Stands image c → Queried image (weight image c) (step site image c)
+querying_falls site image shape run c e st =
+    subst (λ (m : Mode). Queried image (left image c.world * round image + (top_load image m c.top + waiting_load image c.below)) (step_in site image m c)) (sym e)
+    (moved_falls image shape c st site.schema (Query.move site run c.world.txn) (move_more site run.stage run c.world.txn st.paid.eight))

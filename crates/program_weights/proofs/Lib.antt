@@ -6,4 +6,5 @@ pub mod Places
 pub mod Controls
 pub mod Leaving
 pub mod Saves
+pub mod Queries
 pub mod Falls

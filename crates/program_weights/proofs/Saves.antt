@@ -55,7 +55,7 @@ more_more u v w g h =
 abbrev charging : LimitKind → ℕ → TxnState → TxnState
 charging k n w = record w { meter = with_count w.meter k (count_of w.meter k + n) }
 
-more_charged : (k : LimitKind) (n : ℕ) (w : TxnState) → length w.meter ≡ 8 → More w (charging k n w)
+pub more_charged : (k : LimitKind) (n : ℕ) (w : TxnState) → length w.meter ≡ 8 → More w (charging k n w)
 more_charged k n w e =
     let s = place_small k in
     let lt : place_of k < length w.meter = omega arith in record { eight = length-set w.meter _ _ ∙ e; steps = grows w.meter k Steps n lt; alloc = grows w.meter k Alloc n lt }

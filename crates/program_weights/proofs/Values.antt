@@ -9,6 +9,7 @@ use Rattle.apex_num.specs.declared.cell.Cell.TheVariants as C
 use Rattle.apex_num.specs.declared.kind.LimitKind.{LimitKind}
 use Rattle.apex_num.specs.declared.kind.LimitKind.TheVariants as K
 use Rattle.apex_requests.specs.declared.request.Ticket.{Ticket}
+use Rattle.apex_schema.specs.declared.schema.Schema.{Schema}
 use Rattle.builtin_sizes.specs.Sizes.{sized}
 use Rattle.builtin_table.specs.Answers as Answer
 use Rattle.builtin_table.specs.Meanings.{meaning}
@@ -23,7 +24,8 @@ use Rattle.heap_methods.specs.Methods.{method, units}
 use Rattle.heap_methods.specs.Outcomes.{Outcome, Done, Answers, Throws as Thrown', done as things_done, units_of}
 use Rattle.apex_meaning.specs.Builtins.{cell_in, first_of, rest_of}
 use Rattle.apex_meaning.specs.Exceptions.{Kind, Nothing, BuiltIn, Declared, kind_of_thing, message_of_thing}
-use Rattle.apex_meaning.specs.Places.{cell_or_null, setting_units, with_cell}
+use Rattle.apex_meaning.specs.Places.{setting_units, with_cell}
+use Rattle.apex_meaning.specs.Records.{cell_in as record_cell}
 use Rattle.limit_meter.specs.Charges.{count_of, limit_of}
 use Rattle.platform_errors.specs.declared.thrown.Thrown.{Thrown}
 use Rattle.platform_errors.specs.declared.thrown.Thrown.TheVariants.{NullObject, Builtin, InvalidConversion}
@@ -48,7 +50,7 @@ use Rattle.value_operators.specs.declared.calculated.Calculated.TheVariants.{Val
 use Rattle.value_texts.specs.Texts.{text_of}
 use Rattle.stack_code.specs.Machine.{Next, charged, charged_if, next, on_calc, on_top, on_truth, raise, taken, with_heap, with_line, with_statics}
 use Rattle.stack_code.specs.Steps.{operator_next}
-use Rattle.stack_code.specs.Things.{answered_next, builtin_next, cast_if, cast_next, change_next, cell_loaded, cell_of_thing, cell_stored, collection, copied_next, done_next, fetch_next, field_loaded, field_of_thing, field_stored, filled_next, get_next, if_exception, loaded, make_for, message_next, null_loaded, on_exception, parts_of, platform_next, print_next, set_cell_in_thing, set_in_thing, set_message, set_next, sized_next, stored, text_next}
+use Rattle.stack_code.specs.Things.{answered_next, builtin_next, cast_if, cast_next, change_next, cell_loaded, cell_stored, collection, copied_next, done_next, fetch_next, field_loaded, field_of_thing, field_stored, filled_next, get_next, if_exception, loaded, make_for, message_next, on_exception, parts_of, platform_next, print_next, set_cell_in_thing, set_in_thing, set_message, set_next, sized_next, stored, text_next}
 use Rattle.stack_code.specs.declared.code.Slot.{Slot}
 use Rattle.stack_code.specs.declared.code.Slot.TheVariants as S
 use Rattle.stack_code.specs.declared.image.Image.{Image}
@@ -243,17 +245,8 @@ module _ (image : Image) (body : BodyAt) (pc : ℕ) (hs : List Handler) (ws : Li
   field_stored_falls place (Plain cell) v here s w go p h = raises NullObject here s w p
   field_stored_falls place (Object r) v here s w go p h = set_in_falls place v r.place (slice_get w.heap r.place) here s w go p h
 
-  cell_of_falls : (field : ℕ) (o : Option Thing) (here : Here) (s : List Value) (w : World) (go : Value → Config → Next) → Kept image m w → ((v : Value) (x : World) → Kept image m x → Falls image N (go v (cfg here s x))) → Falls image N (cell_of_thing field o (cfg here s w) go)
-  cell_of_falls field (Some (T.Record r)) here s w go p h = h (cell_or_null (slice_index_or r.cells field None)) w p
-  cell_of_falls field _ here s w go p h = raises NullObject here s w p
-
-  null_falls : (goes_on : Bool) (here : Here) (s : List Value) (w : World) (go : Value → Config → Next) → Kept image m w → ((v : Value) (x : World) → Kept image m x → Falls image N (go v (cfg here s x))) → Falls image N (null_loaded goes_on (cfg here s w) go)
-  null_falls true here s w go p h = h null w p
-  null_falls false here s w go p h = raises NullObject here s w p
-
-  cell_loaded_falls : (field : ℕ) (goes_on : Bool) (on : Value) (here : Here) (s : List Value) (w : World) (go : Value → Config → Next) → Kept image m w → ((v : Value) (x : World) → Kept image m x → Falls image N (go v (cfg here s x))) → Falls image N (cell_loaded field goes_on on (cfg here s w) go)
-  cell_loaded_falls field goes_on (Plain cell) here s w go p h = null_falls goes_on here s w go p h
-  cell_loaded_falls field goes_on (Object r) here s w go p h = cell_of_falls field (slice_get w.heap r.place) here s w go p h
+  cell_loaded_falls : (schema : Schema) (field : ℕ) (goes_on : Bool) (on : Value) (here : Here) (s : List Value) (w : World) (go : Value → Config → Next) → Kept image m w → ((v : Value) (x : World) → Kept image m x → Falls image N (go v (cfg here s x))) → Falls image N (cell_loaded schema field goes_on on (cfg here s w) go)
+  cell_loaded_falls schema field goes_on on here s w go p h = calc_falls (record_cell schema field goes_on on w.heap) here s w (λ v. go v (cfg here s w)) p (λ v. h v w p)
 
   set_cell_falls : (field : ℕ) (v : Value) (at : ℕ) (o : Option Thing) (here : Here) (s : List Value) (w : World) (go : Config → Next) → Kept image m w → ((x : World) → Kept image m x → Falls image N (go (cfg here s x))) → Falls image N (set_cell_in_thing field v at o (cfg here s w) go)
   set_cell_falls field v at (Some (T.Record r)) here s w go p h =
@@ -264,12 +257,12 @@ module _ (image : Image) (body : BodyAt) (pc : ℕ) (hs : List Handler) (ws : Li
   cell_stored_falls field (Plain cell) v here s w go p h = raises NullObject here s w p
   cell_stored_falls field (Object r) v here s w go p h = set_cell_falls field v r.place (slice_get w.heap r.place) here s w go p h
 
-  loaded_falls : (slot : Slot) (ps : List Value) (here : Here) (s : List Value) (w : World) (go : Value → Config → Next) → Kept image m w → ((v : Value) (x : World) → Kept image m x → Falls image N (go v (cfg here s x))) → Falls image N (loaded slot ps (cfg here s w) go)
-  loaded_falls (S.Local x) ps here s w go p h = h _ w p
-  loaded_falls (S.Static k n) ps here s w go p h = h _ w p
-  loaded_falls (S.Field place) ps here s w go p h = field_loaded_falls place (first_of ps) here s w go p h
-  loaded_falls S.Item ps here s w go p h = collection_falls (B.List L.Get) (first_of ps) (first_of (rest_of ps) ∷ []) here s w go p h
-  loaded_falls (S.Cell field goes_on) ps here s w go p h = cell_loaded_falls field goes_on (first_of ps) here s w go p h
+  loaded_falls : (schema : Schema) (slot : Slot) (ps : List Value) (here : Here) (s : List Value) (w : World) (go : Value → Config → Next) → Kept image m w → ((v : Value) (x : World) → Kept image m x → Falls image N (go v (cfg here s x))) → Falls image N (loaded schema slot ps (cfg here s w) go)
+  loaded_falls schema (S.Local x) ps here s w go p h = h _ w p
+  loaded_falls schema (S.Static k n) ps here s w go p h = h _ w p
+  loaded_falls schema (S.Field place) ps here s w go p h = field_loaded_falls place (first_of ps) here s w go p h
+  loaded_falls schema S.Item ps here s w go p h = collection_falls (B.List L.Get) (first_of ps) (first_of (rest_of ps) ∷ []) here s w go p h
+  loaded_falls schema (S.Cell field goes_on) ps here s w go p h = cell_loaded_falls schema field goes_on (first_of ps) here s w go p h
 
   stored_falls : (slot : Slot) (ps : List Value) (v : Value) (here : Here) (s : List Value) (w : World) (go : Config → Next) → Kept image m w → ((now : Here) (x : World) → Kept image m x → Falls image N (go (cfg now s x))) → Falls image N (stored slot ps v (cfg here s w) go)
   stored_falls (S.Local x) ps v here s w go p h = h (record here { locals = put_at x v here.locals }) w p
@@ -278,21 +271,21 @@ module _ (image : Image) (body : BodyAt) (pc : ℕ) (hs : List Handler) (ws : Li
   stored_falls S.Item ps v here s w go p h = collection_falls (B.List L.Set) (first_of ps) (first_of (rest_of ps) ∷ v ∷ []) here s w (λ u d. go d) p (λ u x q. h here x q)
   stored_falls (S.Cell field goes_on) ps v here s w go p h = cell_stored_falls field (first_of ps) v here s w go p (λ x q. h here x q)
 
-  pub get_falls : (slot : Slot) (here : Here) (s : List Value) (w : World) → Kept image m w → Falls image N (get_next slot (cfg here s w))
-  get_falls slot here s w p =
-      loaded_falls slot (taken (parts_of slot) s []).0 here s w (λ v d. next d (v ∷ (taken (parts_of slot) s []).1)) p (λ v x q. go_on here s (v ∷ (taken (parts_of slot) s []).1) x q)
+  pub get_falls : (schema : Schema) (slot : Slot) (here : Here) (s : List Value) (w : World) → Kept image m w → Falls image N (get_next schema slot (cfg here s w))
+  get_falls schema slot here s w p =
+      loaded_falls schema slot (taken (parts_of slot) s []).0 here s w (λ v d. next d (v ∷ (taken (parts_of slot) s []).1)) p (λ v x q. go_on here s (v ∷ (taken (parts_of slot) s []).1) x q)
 
-  pub fetch_falls : (slot : Slot) (here : Here) (s : List Value) (w : World) → Kept image m w → Falls image N (fetch_next slot (cfg here s w))
-  fetch_falls slot here s w p = loaded_falls slot (taken (parts_of slot) s []).0 here s w (λ v d. next d (v ∷ d.top.stack)) p (λ v x q. go_on here s (v ∷ s) x q)
+  pub fetch_falls : (schema : Schema) (slot : Slot) (here : Here) (s : List Value) (w : World) → Kept image m w → Falls image N (fetch_next schema slot (cfg here s w))
+  fetch_falls schema slot here s w p = loaded_falls schema slot (taken (parts_of slot) s []).0 here s w (λ v d. next d (v ∷ d.top.stack)) p (λ v x q. go_on here s (v ∷ s) x q)
 
   pub set_falls : (slot : Slot) (here : Here) (s : List Value) (w : World) → Kept image m w → Falls image N (set_next slot (cfg here s w))
   set_falls slot here s w p =
       top_falls s _ (λ v under. stored_falls slot (taken (parts_of slot) under []).0 v here s w (λ d. next d (v ∷ (taken (parts_of slot) under []).1)) p (λ now x q. go_on now s (v ∷ (taken (parts_of slot) under []).1) x q))
 
-  pub change_falls : (kind : StepKind) (n : Number) (slot : Slot) (here : Here) (s : List Value) (w : World) → Kept image m w → Falls image N (change_next kind n slot (cfg here s w))
-  change_falls kind n slot here s w p =
+  pub change_falls : (schema : Schema) (kind : StepKind) (n : Number) (slot : Slot) (here : Here) (s : List Value) (w : World) → Kept image m w → Falls image N (change_next schema kind n slot (cfg here s w))
+  change_falls schema kind n slot here s w p =
       let ps = (taken (parts_of slot) s []).0 in
       let stack = (taken (parts_of slot) s []).1 in
-      loaded_falls slot ps here s w (λ old d. on_calc (stepped kind.up n old) d (λ new. stored slot ps new d (λ e. next e (cond kind.before new old ∷ stack)))) p (λ old x q.
+      loaded_falls schema slot ps here s w (λ old d. on_calc (stepped kind.up n old) d (λ new. stored slot ps new d (λ e. next e (cond kind.before new old ∷ stack)))) p (λ old x q.
       calc_falls (stepped kind.up n old) here s x (λ new. stored slot ps new (cfg here s x) (λ e. next e (cond kind.before new old ∷ stack))) q (λ new.
       stored_falls slot ps new here s x (λ e. next e (cond kind.before new old ∷ stack)) q (λ now y r. go_on now s (cond kind.before new old ∷ stack) y r)))

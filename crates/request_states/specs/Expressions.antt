@@ -1,23 +1,15 @@
--- Values that code makes, and records and counts (docs/language.md, "What code does").
-use Rattle.std.specs.Prelude.{ℕ, pos, ◌+◌, ◌*◌, ◌&&◌, not, Bool, true, false, List, [], ◌∷◌, length, replicate, slice_get, slice_set, Option, None, Some}
+-- Values and records that code makes (docs/language.md, "What code does").
+use Rattle.std.specs.Prelude.{ℕ, ◌+◌, ◌*◌, Bool, true, false, List, [], ◌∷◌, length, replicate, slice_get, slice_set, Option, None, Some}
 use Rattle.apex_num.specs.declared.cell.Cell.{Cell}
-use Rattle.apex_num.specs.declared.cell.Cell.TheVariants as C
 use Rattle.apex_num.specs.declared.kind.LimitKind.TheVariants.{Alloc}
-use Rattle.apex_rows.specs.declared.query.Cond.{Cond}
-use Rattle.apex_rows.specs.declared.query.Query.{Query}
-use Rattle.apex_rows.specs.declared.query.Query.TheOpen.{Query-F}
-use Rattle.apex_rows.specs.declared.query.Query.TheViews.{out-Query}
-use Rattle.apex_rows.specs.declared.query.SubQuery.{SubQuery}
 use Rattle.apex_schema.specs.declared.schema.Object.{Object as TheObject}
-use Rattle.row_meaning.specs.Conds.{is_local}
 use Rattle.save_meaning.specs.Sites.{Site}
-use Rattle.save_meaning.specs.Counts.{count}
 use Rattle.txn_heap.specs.declared.thing.Thing.TheVariants as T
 use Rattle.txn_heap.specs.declared.thing.Value.{Value}
 use Rattle.txn_heap.specs.declared.thing.Value.TheVariants.{Plain, Object}
 use Rattle.typed_program.specs.declared.expr.Constant.{Constant}
 use Rattle.save_meaning.specs.Results.{Gives, bind}
-use Rattle.request_states.specs.States.{State, Res, unbuilt, charge, keeps, make}
+use Rattle.request_states.specs.States.{State, Res, unbuilt, charge, make}
 use Rattle.request_states.specs.Values.{cell_of}
 
 -- what code does from a state on
@@ -46,30 +38,9 @@ abbrev pub width : Option TheObject → ℕ
 width None = 0
 width (Some o) = length o.fields
 
--- ---- queries
-
-abbrev pub is_none : {A : Type 0} → Option A → Bool
-is_none None = true
-is_none (Some a) = false
-
--- COUNT() with a condition over the fields of its own object, or none, and nothing else
-abbrev pub is_count : Query-F Query SubQuery → Bool
-is_count q = q.counted && not q.locked && is_none q.limit && is_none q.offset && is_local q.cond
-
 module _ (site : Site) where
   -- a record costs 32 units, and 32 for each cell that it is given; the values are there before
   abbrev pub make_record : ℕ → List (ℕ × Value) → State → Res Value
   make_record object ps st =
       bind (charge Alloc (32 + 32 * length ps) st) (λ u s.
-      make (T.Record (record { object = object; cells = with_pairs ps (replicate (width (slice_get site.schema.objects object)) None) })) s)
-
-  abbrev pub count_if : Bool → ℕ → Cond → State → Res Value
-  count_if true object c st = bind (count keeps object c st) (λ n s. Gives (Plain (C.Whole (pos n))) s)
-  count_if false object c st = unbuilt st
-
-  abbrev pub counted : Query-F Query SubQuery → State → Res Value
-  counted q st = count_if (is_count q) q.object q.cond st
-
-  abbrev pub query_with : {A : Type 0} → Query → List A → State → Res Value
-  query_with q [] st = counted (out-Query q) st
-  query_with q (b ∷ bs) st = unbuilt st
+      make (T.Record (record { object = object; cells = with_pairs ps (replicate (width (slice_get site.schema.objects object)) None); selected = None })) s)

@@ -8,17 +8,19 @@ use crate::choices::put_choice;
 use crate::emitted::{put, sum};
 use crate::layout::Layout;
 use crate::makes::{call_of, put_new, put_static_call};
-use crate::queries::emit_query;
+use crate::queries::{kind_of, put_query};
 use crate::values::{
     emit_change, emit_constant, emit_fetch, emit_step, emit_store, put_static, put_test,
 };
 use apex_list::Items;
 use apex_num::NoMemory;
+use query_records::BindKind;
 use stack_code::{Instr, Slot};
+use static_types::Primitive;
 use std::alloc::Global;
 use typed_program::{
-    Conversion, TypedExpr, TypedItem, TypedNew, TypedOp, TypedOperand, TypedPair, TypedPart,
-    TypedPlace,
+    CollectionKind, Conversion, TypedBind, TypedExpr, TypedItem, TypedNew, TypedOp, TypedOperand,
+    TypedPair, TypedPart, TypedPlace,
 };
 
 /// The instructions of an expression.
@@ -44,7 +46,9 @@ pub fn emit_expr(
             emit_expr(code, alloc, layout, first.get())?;
             emit_operands(code, alloc, layout, operands.as_slice())
         }
-        TypedExpr::Convert(Conversion::ToRecord, _) => put(code, Instr::Unbuilt),
+        TypedExpr::Convert(Conversion::ToRecord, inner) => {
+            emit_with(code, alloc, layout, inner.get(), Instr::Only)
+        }
         TypedExpr::Convert(how, inner) => {
             emit_with(code, alloc, layout, inner.get(), Instr::Convert(*how))
         }
@@ -93,7 +97,10 @@ pub fn emit_expr(
             put(code, Instr::Builtin(*which, args.len()))
         }
         TypedExpr::Debug(inner) => emit_with(code, alloc, layout, inner.get(), Instr::Print),
-        TypedExpr::Query(query, binds) => emit_query(code, alloc, query.get(), binds.as_slice()),
+        TypedExpr::Query(query, binds) => {
+            let kinds = emit_binds(code, alloc, layout, binds.as_slice())?;
+            put_query(code, alloc, query.get(), kinds)
+        }
         TypedExpr::TriggerVariable(_) => put(code, Instr::Unbuilt),
     }
 }
@@ -219,6 +226,40 @@ fn emit_operands(
     Ok(())
 }
 
+#[cycle(emit)]
+fn emit_bind(
+    code: &mut Vec<Instr>,
+    alloc: Global,
+    layout: &Layout,
+    bind: &TypedBind,
+) -> Result<(), NoMemory>
+    ensures { OnOk result (code.new.items ≡ code.old.items ++ (codes.bind_code layout.now.program.now bind.now).1) }
+{
+    match bind {
+        TypedBind::One(value) => emit_expr(code, alloc, layout, value.get()),
+        TypedBind::Many(_, value) => emit_expr(code, alloc, layout, value.get()),
+    }
+}
+
+// The values of binds, one behind the other, and how they are given.
+#[cycle(emit)]
+fn emit_binds(
+    code: &mut Vec<Instr>,
+    alloc: Global,
+    layout: &Layout,
+    binds: &[TypedBind],
+) -> Result<Items<BindKind>, NoMemory>
+    ensures code { OnOk result (code.new.items ≡ code.old.items ++ codes.binds_code (map (codes.bind_code layout.now.program.now) binds.now)) }
+    ensures kinds { IfOk result (λ kinds. kinds ≡ codes.kinds_of (map (codes.bind_code layout.now.program.now) binds.now)) }
+{
+    let mut kinds = Items::new(alloc);
+    for bind in binds {
+        emit_bind(code, alloc, layout, bind)?;
+        kinds.push(kind_of(bind))?;
+    }
+    Ok(kinds)
+}
+
 // What goes on with a value.
 #[cycle(emit)]
 fn emit_part(
@@ -246,7 +287,10 @@ fn emit_part(
         TypedPart::Cell(_, field, goes_on) => {
             put(code, Instr::Get(Slot::Cell(*field, *goes_on)))
         }
-        TypedPart::Parent(_, _, _) | TypedPart::Children(_, _, _) => put(code, Instr::Unbuilt),
+        TypedPart::Parent(_, field, goes_on) => put(code, Instr::Parent(*field, *goes_on)),
+        TypedPart::Children(object, field, goes_on) => {
+            put(code, Instr::Children(*object, *field, *goes_on))
+        }
     }
 }
 
@@ -330,6 +374,9 @@ fn emit_new(
         TypedNew::Copy(kind, inner) => {
             emit_with(code, alloc, layout, inner.get(), Instr::Copied(*kind))
         }
-        TypedNew::ById(_) => put(code, Instr::Unbuilt),
+        TypedNew::ById(inner) => {
+            let kind = CollectionKind::Map(Primitive::Id);
+            emit_with(code, alloc, layout, inner.get(), Instr::Copied(kind))
+        }
     }
 }

@@ -1,50 +1,38 @@
 // The instructions of queries.
 
-ghost use Rattle.std.specs.Prelude.{◌≡◌, true, ◌++◌, OnOk};
+ghost use Rattle.std.specs.Prelude.{◌≡◌, ◌∷◌, [], ◌++◌, OnOk};
+ghost use Rattle.query_records.specs.Shapes.{queried as asked};
 ghost use Rattle.stack_code.specs.Code as spec;
+ghost use Rattle.stack_compiler.specs.Codes as codes;
 
 use crate::emitted::put;
-use apex_list::Boxed;
+use apex_list::{Boxed, Items};
 use apex_num::NoMemory;
-use apex_rows::{Cond, Query};
-use row_conditions::{is_local, local_part};
-use stack_code::{Counting, Instr};
+use apex_rows::Query;
+use query_records::{BindKind, queried};
+use stack_code::Instr;
 use std::alloc::Global;
 use typed_program::TypedBind;
 
-fn emit_count(
-    code: &mut Vec<Instr>,
-    alloc: Global,
-    object: usize,
-    cond: &Cond,
-) -> Result<(), NoMemory>
-    ensures { OnOk result (code.new.items ≡ code.old.items ++ spec.count_if true object cond.now) }
+/// How the value of a bind is given.
+pub fn kind_of(bind: &TypedBind) -> BindKind
+    ensures { result ≡ codes.kind_of bind.now }
 {
-    let counting = Counting {
-        object,
-        cond: cond.copy()?,
-        asked: Cond::All(local_part(alloc, cond)?),
-    };
-    put(code, Instr::Count(Boxed::new(alloc, counting)?))
+    match bind {
+        TypedBind::One(_) => BindKind::One,
+        TypedBind::Many(how, _) => BindKind::Many(*how),
+    }
 }
 
-/// The instructions of a query with its binds.
-pub fn emit_query(
+/// The instruction of a query, behind those of its binds.
+pub fn put_query(
     code: &mut Vec<Instr>,
     alloc: Global,
     query: &Query,
-    binds: &[TypedBind],
+    kinds: Items<BindKind>,
 ) -> Result<(), NoMemory>
-    ensures { OnOk result (code.new.items ≡ code.old.items ++ spec.query_with query.now binds.now) }
+    ensures { OnOk result (code.new.items ≡ code.old.items ++ Instr.Query (asked query.now) kinds ∷ []) }
 {
-    let is_plain = query.counted
-        && !query.locked
-        && query.limit.is_none()
-        && query.offset.is_none()
-        && is_local(&query.cond);
-    if is_plain && binds.is_empty() {
-        emit_count(code, alloc, query.object, &query.cond)
-    } else {
-        put(code, Instr::Unbuilt)
-    }
+    let queried = queried(alloc, query)?;
+    put(code, Instr::Query(Boxed::new(alloc, queried)?, kinds))
 }

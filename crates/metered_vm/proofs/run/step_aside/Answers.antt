@@ -3,9 +3,9 @@ use Rattle.std.specs.Prelude.{slice_get}
 use Rattle.stack_code.specs.declared.state.Mode.TheVariants as M
 use Rattle.stack_code.specs.Machine.{in_mode, instrs_at}
 use Rattle.stack_code.specs.Steps.{act}
-use Rattle.program_things.specs.Saves.{IsStepTo, is_saving}
+use Rattle.program_things.specs.Saves.{IsStepTo}
 use Rattle.program_things.specs.Steps.{IsStep}
-use Rattle.metered_vm.proofs.Once.{at_mode, act_to, ask_found, count_found, leave_to, save_keeps}
+use Rattle.metered_vm.proofs.Once.{act_to, at_mode, is_querying, is_saving, leave_to, query_keeps, save_keeps}
 use Rattle.metered_vm.proofs.run.step_aside.Goals as goal
 
 pub returns-in_ok-moved-in-Running-clause-step : goal.returns-in_ok-moved-in-Running-clause-step
@@ -26,23 +26,15 @@ pub returns-in_ok-moved-in-Leaving-clause-keeps : goal.returns-in_ok-moved-in-Le
 returns-in_ok-moved-in-Leaving-clause-keeps c =
     (leave_to c.args.schema.now c.args.ticket c.args.image.now c.args.c.now _ c.in-Leaving.why c.in_ok-moved-in-Leaving.moved c.leaving.new.c (sym c.replace.ensures.value ∙ c.in-Leaving.is) c.requires.stands c.in_ok-moved-in-Leaving.ensures).1
 
-pub returns-in_ok-moved-in-Asking-clause-step : goal.returns-in_ok-moved-in-Asking-clause-step
-returns-in_ok-moved-in-Asking-clause-step c =
-    (ask_found c.args.schema.now c.args.ticket c.args.image.now c.args.c.now c.in-Asking.counting c.get.result.now c.in_ok-moved-in-Asking.moved (sym c.replace.ensures.value ∙ c.in-Asking.is) c.get.ensures c.requires.stands
-    (λ d. c.in_ok-moved-in-Asking.ensures d)).0
+pub returns-in_ok-moved-in-Querying-clause-step : goal.returns-in_ok-moved-in-Querying-clause-step
+returns-in_ok-moved-in-Querying-clause-step c =
+    subst (λ y. IsStepTo c.args.schema.now c.args.ticket c.args.image.now y c.in_ok-moved-in-Querying.moved c.query.new.c) (at_mode c.args.c.now (M.Querying c.in-Querying.shape c.in-Querying.run') (sym c.replace.ensures.value ∙ c.in-Querying.is)) (c.in_ok-moved-in-Querying.ensures.step c.args.image.now)
 
-pub returns-in_ok-moved-in-Asking-clause-keeps : goal.returns-in_ok-moved-in-Asking-clause-keeps
-returns-in_ok-moved-in-Asking-clause-keeps c =
-    (ask_found c.args.schema.now c.args.ticket c.args.image.now c.args.c.now c.in-Asking.counting c.get.result.now c.in_ok-moved-in-Asking.moved (sym c.replace.ensures.value ∙ c.in-Asking.is) c.get.ensures c.requires.stands
-    (λ d. c.in_ok-moved-in-Asking.ensures d)).1
-
-pub returns-in_ok-moved-in-Counting-clause-step : goal.returns-in_ok-moved-in-Counting-clause-step
-returns-in_ok-moved-in-Counting-clause-step c =
-    (count_found c.args.schema.now c.args.ticket c.args.image.now c.args.c.now _ c.in-Counting.counting c.get-in-Counting.result.now c.in-Counting.answer c.in_ok-moved-in-Counting.moved c.count.new.c (sym c.replace.ensures.value ∙ c.in-Counting.is) c.get-in-Counting.ensures c.requires.stands c.in_ok-moved-in-Counting.ensures).0
-
-pub returns-in_ok-moved-in-Counting-clause-keeps : goal.returns-in_ok-moved-in-Counting-clause-keeps
-returns-in_ok-moved-in-Counting-clause-keeps c =
-    (count_found c.args.schema.now c.args.ticket c.args.image.now c.args.c.now _ c.in-Counting.counting c.get-in-Counting.result.now c.in-Counting.answer c.in_ok-moved-in-Counting.moved c.count.new.c (sym c.replace.ensures.value ∙ c.in-Counting.is) c.get-in-Counting.ensures c.requires.stands c.in_ok-moved-in-Counting.ensures).1
+pub returns-in_ok-moved-in-Querying-clause-keeps : goal.returns-in_ok-moved-in-Querying-clause-keeps
+returns-in_ok-moved-in-Querying-clause-keeps c =
+    query_keeps c.args.schema.now c.args.ticket c.args.image.now c.args.c.now c.in_ok-moved-in-Querying.moved c.query.new.c (ap is_querying (sym c.replace.ensures.value ∙ c.in-Querying.is)) c.requires.stands
+    (subst (λ y. IsStepTo c.args.schema.now c.args.ticket c.args.image.now y c.in_ok-moved-in-Querying.moved c.query.new.c) (at_mode c.args.c.now (M.Querying c.in-Querying.shape c.in-Querying.run') (sym c.replace.ensures.value ∙ c.in-Querying.is)) (c.in_ok-moved-in-Querying.ensures.step c.args.image.now))
+    c.in_ok-moved-in-Querying.ensures.behind
 
 pub returns-in_ok-moved-in-Saving-clause-step : goal.returns-in_ok-moved-in-Saving-clause-step
 returns-in_ok-moved-in-Saving-clause-step c =

@@ -4,5 +4,5 @@ use Rattle.program_things.proofs.variables.fetch_item.Goals as goal
 
 pub returns : goal.returns
 returns c =
-    renamed c.item_fetched.result _ _ c.item_fetched.new.c
-    (fetch_item_is c.args.c.now c.in-Some-pop.on c.in-Some.at c.pop.new.self c.pop-2.new.self c.in-Some.ensures c.in-Some-pop.ensures) c.item_fetched.ensures
+    renamed c.put_item.result _ _ c.put_item.new.c
+    (fetch_item_is c.args.c.now c.in-Some-pop.on c.in-Some.at c.pop.new.self c.pop-2.new.self c.in-Some.ensures c.in-Some-pop.ensures) c.put_item.ensures

@@ -1,6 +1,6 @@
 use Rattle.std.proofs.Common.{◌≡◌, ◌++◌, drop, map}
 use Rattle.stack_code.specs.Code.{expr_code, fields_of, joined, pairs_code}
-use Rattle.stack_compiler.specs.Codes.{item_code, operand_code, pair_code, part_code}
+use Rattle.stack_compiler.specs.Codes.{bind_code, binds_code, item_code, kinds_of, operand_code, pair_code, part_code}
 use Rattle.stack_compiler.proofs.exprs.+emit.Given as goal
 
 abbrev pub invariant-emit_exprs-loop-expr : goal.invariant-emit_exprs-loop-expr
@@ -19,3 +19,8 @@ invariant-emit_record-loop-pair l =
 
 abbrev pub invariant-emit_entries-loop-item : goal.invariant-emit_entries-loop-item
 invariant-emit_entries-loop-item l = l.code.items ++ joined (map (item_code l.layout.program.now) (drop l.item-index l.items)) ≡ l.fn.code.items ++ joined (map (item_code l.layout.program.now) l.items)
+
+abbrev pub invariant-emit_binds-loop-bind : goal.invariant-emit_binds-loop-bind
+invariant-emit_binds-loop-bind l =
+    (l.code.items ++ binds_code (map (bind_code l.layout.program.now) (drop l.bind-index l.binds)) ≡ l.fn.code.items ++ binds_code (map (bind_code l.layout.program.now) l.binds))
+    × (l.kinds ++ kinds_of (map (bind_code l.layout.program.now) (drop l.bind-index l.binds)) ≡ kinds_of (map (bind_code l.layout.program.now) l.binds))

@@ -10,7 +10,7 @@ use Rattle.stack_code.specs.Machine.{next, on_calc}
 use Rattle.stack_code.specs.Things.{stored}
 use Rattle.program_things.proofs.Framed.{framed}
 use Rattle.program_things.proofs.Called.{ended, given, renamed}
-use Rattle.program_things.proofs.stores.item_stepped.Goals as goal
+use Rattle.program_things.proofs.stores.step_item.Goals as goal
 
 pub returns-in-Ok : goal.returns-in-Ok
 returns-in-Ok c =

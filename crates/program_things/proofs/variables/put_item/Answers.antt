@@ -5,7 +5,7 @@ use Rattle.stack_code.specs.Machine.{next}
 use Rattle.program_things.specs.Collects.{Collects}
 use Rattle.program_things.proofs.Framed.{framed}
 use Rattle.program_things.proofs.Called.{ended, given, renamed}
-use Rattle.program_things.proofs.variables.item_fetched.Goals as goal
+use Rattle.program_things.proofs.variables.put_item.Goals as goal
 
 pub returns-in_ok-push-in-Ok-2 : goal.returns-in_ok-push-in-Ok-2
 returns-in_ok-push-in-Ok-2 c =
