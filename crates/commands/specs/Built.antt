@@ -6,8 +6,6 @@ use Rattle.schema_plans.specs.declared.plan.ObjectPlan.{ObjectPlan}
 use Rattle.schema_plans.specs.declared.plan.PlanKind.{PlanKind}
 use Rattle.schema_plans.specs.declared.plan.PlanKind.TheVariants as Kind
 use Rattle.schema_plans.specs.declared.plan.SchemaPlan.{SchemaPlan}
-use Rattle.apex_schema.specs.declared.schema.Access.{Access}
-use Rattle.apex_schema.specs.declared.schema.Access.TheVariants as Default
 use Rattle.bundle_read.specs.declared.entries.RequestEntry.{RequestEntry}
 use Rattle.bundle_read.specs.declared.entries.SessionEntry.{SessionEntry}
 use Rattle.bundle_read.specs.declared.entries.TenantPlan.{TenantPlan}
@@ -33,14 +31,8 @@ is_plain_kind Kind.Rollup = false
 abbrev pub is_plain_field : FieldPlan → Bool
 is_plain_field f = is_plain_kind f.kind
 
--- everybody may see the rows
-abbrev pub is_seen : Access → Bool
-is_seen Default.Nothing = false
-is_seen Default.Read = true
-is_seen Default.Edit = true
-
 abbrev pub is_plain_object : ObjectPlan → Bool
-is_plain_object o = is_seen o.default && list_all is_plain_field o.fields
+is_plain_object o = list_all is_plain_field o.fields
 
 abbrev pub is_plain_schema : SchemaPlan → Bool
 is_plain_schema p = list_all is_plain_object p.objects

@@ -4,7 +4,6 @@ ghost use Rattle.std.specs.Prelude.{◌≡◌};
 ghost use Rattle.std.specs.List.{list_all};
 ghost use Rattle.commands.specs.Built as spec;
 
-use apex_schema::Access;
 use bundle_read::{RequestEntry, SessionEntry, TenantPlan, WorkEntry};
 use schema_plans::{FieldPlan, ObjectPlan, PlanKind, SchemaPlan};
 use tenant_parts::TenantPart;
@@ -30,19 +29,10 @@ fn are_plain_fields(fields: &[FieldPlan]) -> bool
     fields.iter().all(|field| is_plain_field(field))
 }
 
-fn is_seen(default: Access) -> bool
-    ensures { result ≡ spec.is_seen default }
-{
-    match default {
-        Access::Read | Access::Edit => true,
-        Access::Nothing => false,
-    }
-}
-
 fn is_plain_object(object: &ObjectPlan) -> bool
     ensures { result ≡ spec.is_plain_object object.now }
 {
-    is_seen(object.default) && are_plain_fields(object.fields.as_slice())
+    are_plain_fields(object.fields.as_slice())
 }
 
 fn is_plain_schema(plan: &SchemaPlan) -> bool
@@ -74,8 +64,8 @@ fn are_plain(sessions: &[SessionEntry]) -> bool
     sessions.iter().all(|session| is_plain_session(session))
 }
 
-/// Whether a tenant, with the part that it is, is one that is run so far: objects whose rows everybody may see, with fields that
-/// aren't rolled up; no triggers; and sessions whose requests are blocks.
+/// Whether a tenant, with the part that it is, is one that is run so far: no field of its objects is rolled up, it has no triggers,
+/// and the requests of its sessions are blocks.
 pub fn is_built(plan: &TenantPlan, part: &TenantPart) -> bool
     ensures { result ≡ spec.is_built plan.now part.now }
 {
