@@ -30,7 +30,7 @@ changed_elsewhere (t ∷ ts) zero (suc n) f h = refl
 changed_elsewhere (t ∷ ts) (suc p) zero f h = refl
 changed_elsewhere (t ∷ ts) (suc p) (suc n) f h = changed_elsewhere ts p n f (λ e. h (ap suc e))
 
-still_there : (heap more : List Thing) (n : ℕ) → n < length heap → slice_get (heap ++ more) n ≡ slice_get heap n
+pub still_there : (heap more : List Thing) (n : ℕ) → n < length heap → slice_get (heap ++ more) n ≡ slice_get heap n
 still_there [] more n h = absurd (omega arith)
 still_there (t ∷ ts) more zero h = refl
 still_there (t ∷ ts) more (suc n) h = still_there ts more n (omega arith)

@@ -2,3 +2,4 @@ pub mod Kept
 pub mod Carried
 pub mod Sorts
 pub mod Sorting
+pub mod Unchanged

@@ -44,6 +44,10 @@ null_object = Fails Class.NullPointer (codes "Attempt to de-reference a null obj
 abbrev pub out_of_bounds : ℤ → Outcome
 out_of_bounds n = Fails Class.List (codes "List index out of bounds: " ++ signed_decimal n)
 
+-- where the list or the map of a trigger would change
+abbrev pub read_only : Outcome
+read_only = Fails Class.Final (codes "Record is read-only")
+
 -- ---- allocation units: 16 for an element, 32 for an entry of a map, 32 for a new collection, and for a text that is made 16 and
 -- one for each byte
 

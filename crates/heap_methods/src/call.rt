@@ -7,6 +7,7 @@ ghost use Rattle.heap_methods.specs.Outcomes.{Outcome, done, Answers};
 ghost use Rattle.heap_methods.specs.declared.plan.Plan.TheVariants as P;
 ghost use Rattle.heap_methods.specs.Plans.{Plans, Ends, planned};
 
+use crate::guarded::{stays, unchanging};
 use crate::lists::list_method;
 use crate::maps::map_method;
 use crate::plan::{Plan, Planned, null_object};
@@ -124,12 +125,23 @@ fn carry(heap: &mut Heap, on: Ref, plan: Planned) -> Result<Value, BuiltinEnd>
     }
 }
 
+fn at(heap: &Heap, which: Builtin, on: Ref, args: &[Value]) -> Planned
+    ensures { Plans (spec.on_thing which heap.now (slice_get heap.now on.place) args.now) (slice_get heap.now on.place) result }
+{
+    on_thing(heap, which, heap.get(on), args)
+}
+
 /// What a call of a method of a list, set or map on a thing does; `String.join` is called on its list. A thing or arguments that
-/// the method isn't for throw `NullPointerException`; code that was checked hands in none.
+/// the method isn't for throw `NullPointerException`; code that was checked hands in none. A method that would change the list or
+/// map of a trigger throws `FinalException`, but for a null it throws `NullPointerException` there too.
 pub fn plan_call(heap: &Heap, which: Builtin, on: Ref, args: &[Value]) -> Planned
     ensures { Plans (spec.outcome which on.place args.now heap.now) (slice_get heap.now on.place) result }
 {
-    on_thing(heap, which, heap.get(on), args)
+    if stays(heap, which, on) {
+        unchanging(heap.allocator(), at(heap, which, on, args))
+    } else {
+        at(heap, which, on, args)
+    }
 }
 
 /// Calls a method of a list, set or map on a thing, as `plan_call` and `carry_out`. After an error nothing has changed.

@@ -2,6 +2,7 @@
 #![tactic(auto)]
 
 mod call;
+mod guarded;
 mod lists;
 mod making;
 mod maps;

@@ -36,6 +36,15 @@ pub(crate) fn null_object(alloc: Global) -> BuiltinEnd
     }
 }
 
+pub(crate) fn read_only(alloc: Global) -> BuiltinEnd
+    ensures { FailsBy outcome.read_only result }
+{
+    match Text::from_str(alloc, "Record is read-only") {
+        Ok(message) => BuiltinEnd::Throw(ExceptionClass::Final, message),
+        Err(_) => BuiltinEnd::NoMemory,
+    }
+}
+
 fn joined(alloc: Global, front: &str, text: &str) -> Result<Text, AllocError>
     ensures { IfOk result (λ t. t ≡ front.now ++ text.now) }
 {

@@ -45,6 +45,7 @@ thing_after c (T.List xs) = T.List (list_after c xs)
 thing_after c (T.Set ks) = T.Set (set_after c ks)
 thing_after c (T.Map es) = T.Map (map_after c es)
 thing_after c (T.Exception e) = T.Exception e
+thing_after c (T.Guard g) = T.Guard g
 
 -- the things, where one of them changes
 abbrev pub changed : ℕ → (Thing → Thing) → List Thing → List Thing

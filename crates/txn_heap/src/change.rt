@@ -171,7 +171,7 @@ impl Thing {
             Thing::List(items) => change_list(items, change),
             Thing::Set(keys) => change_set(keys, change),
             Thing::Map(entries) => change_map(entries, change),
-            Thing::Exception(_) => Ok(()),
+            Thing::Exception(_) | Thing::Guard(_) => Ok(()),
         }
     }
 }

@@ -3,10 +3,11 @@
 ghost use Rattle.std.specs.Prelude.{◌≡◌, [], ◌∷◌, ◌++◌, length, slice_get, MatchResult, OnOk, OnErr, IfOk};
 ghost use Rattle.std.specs.Option.{option_copied};
 ghost use Rattle.txn_heap.specs.Changes.{changed, thing_after};
+ghost use Rattle.txn_heap.specs.Guards.{thing_with};
 
 use crate::change::Change;
 use crate::thing::{Ref, Thing};
-use apex_num::NoMemory;
+use apex_num::{NoMemory, Text};
 use std::alloc::Global;
 use std::marker::Model;
 
@@ -74,6 +75,15 @@ impl Heap {
             self.things[on.place].change(change)
         } else {
             Ok(())
+        }
+    }
+
+    /// Adds an error to the guard at a place; where there is none, nothing changes.
+    pub(crate) fn add_error_at(&mut self, place: usize, message: Text)
+        ensures { self.new ≡ changed place (thing_with message) self.old }
+    {
+        if place < self.things.len() {
+            self.things[place].add_error(message);
         }
     }
 

@@ -3,6 +3,7 @@
 
 mod change;
 mod entries;
+mod guard;
 mod heap;
 mod keys;
 mod statics;
@@ -13,4 +14,4 @@ pub use entries::Entries;
 pub use heap::Heap;
 pub use keys::{Keys, copy_cells};
 pub use statics::Statics;
-pub use thing::{Exception, Instance, Record, Ref, Relation, Selected, Thing, Under, Value};
+pub use thing::{Exception, Guard, Instance, Record, Ref, Relation, Selected, Thing, Under, Value};

@@ -5,7 +5,7 @@ ghost use Rattle.std.specs.Prelude.{◌≡◌, IfOk};
 use crate::entries::Entries;
 use crate::keys::Keys;
 use apex_list::{Boxed, Items};
-use apex_num::{Cell, Copied, NoMemory};
+use apex_num::{Cell, Copied, NoMemory, Text};
 use builtin_table::ExceptionClass;
 
 /// A thing, by the number of things that were made before it in the transaction.
@@ -70,6 +70,18 @@ pub struct Exception {
     pub message: Cell,
 }
 
+/// What may be done with the record, list or map of a trigger that stands right behind it, and the message of the first error that
+/// the trigger added to the record.
+#[derive(Drop)]
+pub enum Guard {
+    /// Nothing: it is another's, or its firing is over.
+    Fixed,
+    /// An error may be added.
+    Watched(Option<Text>),
+    /// An error may be added, and its cells may be set but for its Id.
+    Open(Option<Text>),
+}
+
 /// A thing that a transaction made.
 #[derive(Drop)]
 pub enum Thing {
@@ -79,6 +91,8 @@ pub enum Thing {
     Set(Keys),
     Map(Entries),
     Exception(Exception),
+    /// What guards the thing behind it.
+    Guard(Guard),
 }
 
 impl Value {

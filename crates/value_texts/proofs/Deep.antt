@@ -63,6 +63,7 @@ module _ (schema : Schema) (classes : List (List ℕ)) (heap : List Thing) where
   thing_same k j h (Some (T.Record r)) = inl refl
   thing_same k j h (Some (T.Instance i)) = inl refl
   thing_same k j h (Some (T.Exception e)) = inl refl
+  thing_same k j h (Some (T.Guard g)) = inl refl
   thing_same k j h (Some (T.Set ks)) = inl refl
   thing_same k j h (Some (T.List vs)) = in_brackets k (codes "(") (codes ")") _ _ refl refl (listed_same k _ _ (values_each k j h vs))
   thing_same k j h (Some (T.Map es)) = in_brackets k (codes "{") (codes "}") _ _ refl refl (listed_same k _ _ (entries_each k j h es))

@@ -6,6 +6,7 @@ use Rattle.apex_schema.specs.declared.schema.FieldKind.TheVariants as Kind
 use Rattle.apex_schema.specs.declared.schema.Object.{Object as TheObject}
 use Rattle.apex_schema.specs.declared.schema.Schema.{Schema}
 use Rattle.builtin_table.specs.declared.exception.ExceptionClass.TheVariants as Class
+use Rattle.txn_heap.specs.declared.thing.Guard.TheVariants as G
 use Rattle.txn_heap.specs.declared.thing.Thing.{Thing}
 use Rattle.txn_heap.specs.declared.thing.Thing.TheVariants as T
 use Rattle.txn_heap.specs.declared.thing.Value.{Value}
@@ -31,13 +32,14 @@ classes = codes "Pair" ∷ codes "myException" ∷ []
 abbrev word : Value
 word = Plain (C.Text (codes "a"))
 
--- thing 7 is a list that has itself
+-- thing 7 is a list that has itself, and thing 8 guards what stands behind it
 abbrev heap : List Thing
 heap =
     T.Record (record { object = 0; cells = None ∷ Some (C.Text (codes "b")) ∷ Some (C.Bool true) ∷ []; selected = None })
     ∷ T.List (Plain C.Null ∷ word ∷ Object (record { place = 0 }) ∷ []) ∷ T.Set (C.Text (codes "x") ∷ C.Text (codes "y") ∷ [])
     ∷ T.Map ((C.Text (codes "k"), Object (record { place = 1 })) ∷ (C.Text (codes "l"), word) ∷ []) ∷ T.Instance (record { class = 1; message = C.Null; fields = [] })
-    ∷ T.Exception (record { class = Class.Math; message = C.Text (codes "m") }) ∷ T.List [] ∷ T.List (Object (record { place = 7 }) ∷ []) ∷ []
+    ∷ T.Exception (record { class = Class.Math; message = C.Text (codes "m") }) ∷ T.List [] ∷ T.List (Object (record { place = 7 }) ∷ [])
+    ∷ T.Guard (G.Open (Some (codes "e"))) ∷ T.List (word ∷ []) ∷ []
 
 abbrev told : ℕ → List ℕ
 told place = text_of schema classes heap (Object (record { place = place }))
@@ -67,3 +69,10 @@ nothing_in_it = refl
 -- each level of the list that has itself has two brackets
 endless : text_within 3 schema classes heap (Object (record { place = 7 })) ≡ codes "((()))"
 endless = refl
+
+-- a guard shows nothing, and doesn't change the text of what it guards
+a_guard : told 8 ≡ []
+a_guard = refl
+
+a_guarded_list : told 9 ≡ codes "(a)"
+a_guarded_list = refl

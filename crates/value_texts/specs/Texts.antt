@@ -72,6 +72,7 @@ thing_text text schema classes None = []
 thing_text text schema classes (Some (T.Record r)) = record_text schema r
 thing_text text schema classes (Some (T.Instance o)) = name_of (slice_get classes o.class)
 thing_text text schema classes (Some (T.Exception e)) = class_name e.class
+thing_text text schema classes (Some (T.Guard g)) = []
 thing_text text schema classes (Some (T.List vs)) = codes "(" ++ listed (texts_by text vs) ++ codes ")"
 thing_text text schema classes (Some (T.Set ks)) = codes "{" ++ listed (key_texts ks) ++ codes "}"
 thing_text text schema classes (Some (T.Map es)) = codes "{" ++ listed (entry_texts text es) ++ codes "}"

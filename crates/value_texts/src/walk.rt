@@ -92,6 +92,7 @@ fn tell_thing(
         Some(Thing::Record(record)) => push_record(alloc, scene.schema, record, line),
         Some(Thing::Instance(instance)) => push_class(scene.classes, instance.class, line),
         Some(Thing::Exception(exception)) => push(exception.class.name(), line),
+        Some(Thing::Guard(_)) => Ok(()),
         Some(Thing::List(_)) => open("(", place, line, stack),
         Some(Thing::Set(_)) => open("{", place, line, stack),
         Some(Thing::Map(_)) => open("{", place, line, stack),

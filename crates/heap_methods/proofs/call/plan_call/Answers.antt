@@ -1,8 +1,12 @@
-use Rattle.std.proofs.Common.{Option, subst}
-use Rattle.txn_heap.specs.declared.thing.Thing.{Thing}
-use Rattle.heap_methods.specs.Methods.{on_thing}
-use Rattle.heap_methods.specs.Plans.{Plans}
+use Rattle.std.proofs.Common.{slice_get, sym, ◌∙◌}
+use Rattle.txn_heap.specs.Guards.{guard_of}
+use Rattle.heap_methods.specs.Methods.{on_thing, stays}
+use Rattle.heap_methods.proofs.Unchanged.{stays_so}
 use Rattle.heap_methods.proofs.call.plan_call.Goals as goal
 
-pub returns : goal.returns
-returns c = subst (λ (there : Option Thing). Plans (on_thing c.args.which c.args.heap.now there c.args.args.now) there c.on_thing.result) c.get.ensures c.on_thing.ensures
+pub returns-then-stays : goal.returns-then-stays
+returns-then-stays c =
+    let heap = c.args.heap.now in
+    let thing = slice_get heap c.args.on.place in
+    let o = on_thing c.args.which heap thing c.args.args.now in
+    stays_so (stays c.args.which (guard_of heap c.args.on.place)) o thing c.unchanging.result (sym c.stays.ensures ∙ c.if-stays.true) (c.unchanging.ensures o thing c.at.ensures)
