@@ -1,5 +1,5 @@
 -- Which triggers there are (docs/platform.md, "Saves").
-use Rattle.std.specs.Prelude.{ℕ, eqb, ◌&&◌, Bool, true, false, cond, List, [], ◌∷◌, ◌++◌, slice_get, Option, None, Some}
+use Rattle.std.specs.Prelude.{◌≡◌, ℕ, eqb, ◌&&◌, Bool, true, false, cond, List, [], ◌∷◌, ◌++◌, slice_get, Option, None, Some}
 use Rattle.save_statements.specs.declared.pending.Act.{Act}
 use Rattle.save_statements.specs.declared.pending.Act.TheVariants.{Inserting, Updating, Deleting}
 use Rattle.save_statements.specs.declared.firing.Trigger.{Trigger}
@@ -26,6 +26,10 @@ abbrev pub all_listed : ℕ → Act → Bool → List Listing → List Trigger
 all_listed object act before [] = []
 all_listed object act before (l ∷ ls) = listed_by object act before l ++ all_listed object act before ls
 
+-- which triggers fire, by these listings
+abbrev pub fires : List Listing → ℕ → Act → Bool → List Trigger
+fires ls object act before = all_listed object act before ls
+
 -- ---- as a table has them
 
 abbrev pub or_no_triggers : Option (List Trigger) → List Trigger
@@ -43,3 +47,7 @@ lists table Deleting before = cond before table.before_delete table.after_delete
 -- the triggers of an object for an act, before or behind the write, in the order in which they fire
 abbrev pub listed : TriggerTable → ℕ → Act → Bool → List Trigger
 listed table object act before = listed_at (lists table act before) object
+
+-- a table has the triggers of these listings
+abbrev pub IsTableOf : TriggerTable → List Listing → Type 0
+IsTableOf table ls = (object : ℕ) (act : Act) (before : Bool) → listed table object act before ≡ all_listed object act before ls

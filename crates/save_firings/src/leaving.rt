@@ -8,7 +8,7 @@ ghost use Rattle.save_statements.specs.declared.firing.Entry.TheVariants as E;
 
 use crate::throwing::threw;
 use apex_list::{Boxed, Items, Stack};
-use apex_num::{NoMemory, Text};
+use apex_num::{Cell, NoMemory, Text};
 use apex_rows::Row;
 use platform_errors::RecordError;
 use save_statements::{Entry, Fired, Left, Pending, Trigger};
@@ -34,17 +34,39 @@ fn or_custom(error: Option<RecordError>, message: Option<Text>) -> Option<Record
     }
 }
 
-// A record with another row.
-fn with_row(pending: Boxed<Pending>, row: Row) -> Result<Boxed<Pending>, NoMemory>
-    ensures { IfOk result (λ p. p ≡ record pending { row = row }) }
+// The cells of a row as a trigger left it. The first one stays; where the trigger left none, all do.
+fn cells_left(was: Items<Cell>, left: Items<Cell>) -> Items<Cell>
+    ensures { result ≡ spec.cells_left was left }
+{
+    if was.is_empty() || left.is_empty() {
+        return was;
+    }
+    let mut cells = left;
+    cells.set(0, was.into_vec().swap_remove(0));
+    cells
+}
+
+// A row as a trigger left it: its object and its Id stay.
+fn row_left(was: Row, left: Row) -> Row
+    ensures { result ≡ spec.row_left was left }
+{
+    let Row { object, id, cells } = was;
+    let cells = cells_left(cells, left.cells);
+    Row { object, id, cells }
+}
+
+// A record with its row as a trigger left it.
+fn with_row(pending: Boxed<Pending>, left: Row) -> Result<Boxed<Pending>, NoMemory>
+    ensures { IfOk result (λ p. p ≡ record pending { row = spec.row_left pending.row left }) }
 {
     let alloc = pending.allocator();
     let Pending {
-        row: _,
+        row,
         old,
         seen,
         under,
     } = pending.into_value();
+    let row = row_left(row, left);
     Boxed::new(
         alloc,
         Pending {
@@ -62,7 +84,7 @@ fn left_so(
     error: Option<RecordError>,
     one: Left,
 ) -> Result<Entry, NoMemory>
-    ensures { IfOk result (λ entry. entry ≡ E.Inside (record pending { row = one.row }) (or_later error (spec.custom one.message))) }
+    ensures { IfOk result (λ entry. entry ≡ E.Inside (record pending { row = spec.row_left pending.row one.row }) (or_later error (spec.custom one.message))) }
 {
     let Left { row, message } = one;
     let error = or_custom(error, message);

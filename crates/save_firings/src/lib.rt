@@ -4,11 +4,13 @@
 
 mod entering;
 mod leaving;
+mod listed;
 mod seeing;
 mod table;
 mod throwing;
 
 pub use entering::{back, enter};
 pub use leaving::fired;
+pub use listed::Firings;
 pub use seeing::context;
 pub use table::{Listing, TriggerTable};

@@ -216,6 +216,16 @@ impl TriggerTable {
         }
     }
 
+    /// The triggers of an object for an act, before or behind the write, in the order in which they fire. No others are looked at.
+    pub fn listed(&self, object: usize, act: Act, before: bool) -> &[Trigger]
+        ensures { result.now ≡ spec.listed self.now object act before }
+    {
+        match self.lists(act, before).get(object) {
+            Some(triggers) => triggers.as_slice(),
+            None => &[],
+        }
+    }
+
     /// Copies of the triggers of an object for an act, before or behind the write, the first on top. No others are looked at.
     pub fn triggers_of(
         &self,
@@ -226,9 +236,6 @@ impl TriggerTable {
     ) -> Result<Stack<Trigger>, NoMemory>
         ensures { IfOk result (λ triggers. triggers ≡ spec.listed self.now object act before) }
     {
-        match self.lists(act, before).get(object) {
-            Some(triggers) => stacked(alloc, triggers.as_slice()),
-            None => Ok(Stack::new(alloc)),
-        }
+        stacked(alloc, self.listed(object, act, before))
     }
 }

@@ -1,5 +1,6 @@
 -- The firings of triggers in a save (docs/platform.md, "Saves").
 use Rattle.std.specs.Prelude.{ℕ, Bool, List, [], ◌∷◌, ◌++◌, Option, None, Some}
+use Rattle.apex_num.specs.declared.cell.Cell.{Cell}
 use Rattle.platform_errors.specs.declared.record.RecordError.{RecordError}
 use Rattle.platform_errors.specs.declared.record.RecordError.TheVariants as Error
 use Rattle.apex_rows.specs.declared.row.Row.{Row}
@@ -47,11 +48,20 @@ abbrev pub custom : Option (List ℕ) → Option RecordError
 custom None = None
 custom (Some message) = Some (Error.Custom message)
 
+-- a trigger changes cells of a row; the first one, which is the Id, stays as it was
+abbrev pub cells_left : List Cell → List Cell → List Cell
+cells_left [] cells = []
+cells_left (id ∷ was) [] = id ∷ was
+cells_left (id ∷ was) (c ∷ cells) = id ∷ cells
+
+abbrev pub row_left : Row → Row → Row
+row_left was row = record was { cells = cells_left was.cells row.cells }
+
 -- the records as a trigger left them; the first error of each stays
 abbrev pub all_left : List Left → List Entry → List Entry
 all_left [] es = es
 all_left (l ∷ ls) [] = []
-all_left (l ∷ ls) (Inside p error ∷ es) = Inside (record p { row = l.row }) (or_later error (custom l.message)) ∷ all_left ls es
+all_left (l ∷ ls) (Inside p error ∷ es) = Inside (record p { row = row_left p.row l.row }) (or_later error (custom l.message)) ∷ all_left ls es
 all_left (l ∷ ls) (Outside e ∷ es) = Outside e ∷ all_left (l ∷ ls) es
 
 -- a trigger threw: that is the error of each record that has none

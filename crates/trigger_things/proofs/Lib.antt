@@ -1,0 +1,3 @@
+mod Firings
+mod More
+mod Places

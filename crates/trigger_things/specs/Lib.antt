@@ -1,0 +1,4 @@
+pub mod Capped
+pub mod Collected
+pub mod Lefts
+pub mod Things
