@@ -2,6 +2,8 @@
 use Rattle.std.specs.Prelude.{ℕ, zero, suc, ◌+◌, ◌*◌, Bool, true, false, cond, List, [], ◌∷◌, length, map, slice_get, Option, None, Some}
 use Rattle.activations.specs.declared.here.Here.{Here}
 use Rattle.apex_num.specs.declared.kind.LimitKind.TheVariants.{Steps, Alloc}
+use Rattle.apex_schema.specs.declared.schema.Mode.{Mode}
+use Rattle.apex_schema.specs.declared.schema.Mode.TheVariants.{Without}
 use Rattle.limit_meter.specs.Charges.{limit_of}
 use Rattle.save_meaning.specs.Results.{Gives, Stops, Closes, Unfinished, bind}
 use Rattle.request_states.specs.Runs.{Setting}
@@ -9,6 +11,7 @@ use Rattle.request_states.specs.States.{State, Res, charge}
 use Rattle.request_states.specs.Values.{null}
 use Rattle.txn_heap.specs.Statics.{with_static}
 use Rattle.txn_heap.specs.declared.thing.Value.{Value}
+use Rattle.txn_heap.specs.declared.thing.Value.TheVariants.{Object}
 use Rattle.typed_program.specs.declared.expr.TypedExpr.{TypedExpr}
 use Rattle.typed_program.specs.declared.program.Program.{Program}
 use Rattle.typed_program.specs.declared.stmt.TypedStmt.{TypedStmt}
@@ -17,9 +20,9 @@ use Rattle.typed_program.specs.declared.unit.ParentCall.{ParentCall}
 use Rattle.typed_program.specs.declared.unit.ParentCall.TheVariants as P
 use Rattle.typed_program.specs.declared.unit.TypedConstructor.{TypedConstructor}
 use Rattle.typed_program.specs.declared.unit.TypedField.{TypedField}
-use Rattle.apex_meaning.specs.Classes.{and_fields, code_of, constructor_at, field_place, fields_at, mode_of, no_starts, Starts, starts}
+use Rattle.apex_meaning.specs.Classes.{and_fields, code_of, constructor_at, field_place, fields_at, mode_of, no_starts, Starts, starts, trigger_at}
 use Rattle.apex_meaning.specs.Expressions.{value_of}
-use Rattle.apex_meaning.specs.Meanings.{Again, Body, Method, Constructor, Fields, Statics, Do, Run, all_do, all_of, dropped, in_here, returned, turn}
+use Rattle.apex_meaning.specs.Meanings.{Again, Body, Method, Constructor, Fields, Statics, Trigger, Do, Run, all_do, all_of, dropped, in_here, returned, turn}
 use Rattle.apex_meaning.specs.Places.{set_field}
 use Rattle.apex_meaning.specs.Preparing.{constructed, set_message, started, with_statics}
 use Rattle.apex_meaning.specs.Statements.{does_all}
@@ -89,17 +92,25 @@ module _ (setting : Setting) (again : Again) (names : List (List ℕ)) where
   body_does (Constructor c k) st = constructs c (constructor_at setting.program c k) st
   body_does (Fields c) st = initial_fields c 0 (fields_at setting.program c) st
   body_does (Statics c) st = initial_statics c 0 (fields_at setting.program c) st
+  body_does (Trigger n) st = method_does (trigger_at setting.program n) st
 
-  abbrev pub class_of : Body → ℕ
-  class_of (Method c m) = c
-  class_of (Constructor c k) = c
-  class_of (Fields c) = c
-  class_of (Statics c) = c
+  -- the mode of a body is that of its class; a trigger runs without sharing
+  abbrev pub mode_in : Body → Mode → Mode
+  mode_in (Method c m) caller = mode_of setting.program c caller
+  mode_in (Constructor c k) caller = mode_of setting.program c caller
+  mode_in (Fields c) caller = mode_of setting.program c caller
+  mode_in (Statics c) caller = mode_of setting.program c caller
+  mode_in (Trigger n) caller = Without
 
-  -- the activation of a body: its arguments are its first locals, and it has the mode of its class
+  -- the firing that a body runs in; that of a trigger has the number of the thing with its variables
+  abbrev pub firing_in : Body → Value → ℕ → ℕ
+  firing_in (Trigger n) (Object r) caller = r.place
+  firing_in b this caller = caller
+
+  -- the activation of a body: its arguments are its first locals
   abbrev pub activation : Body → List Value → Value → Here → Here
   activation b args this caller =
-      record { locals = args; this = this; mode = mode_of setting.program (class_of b) caller.mode; firing = caller.firing }
+      record { locals = args; this = this; mode = mode_in b caller.mode; firing = firing_in b this caller.firing }
 
   abbrev pub body_runs : Body → List Value → Value → Run
   body_runs b args this st = in_here (activation b args this st.here) (λ s. returned (body_does b s)) st

@@ -15,10 +15,11 @@ use Rattle.builtin_table.specs.declared.method.MomentMethod.TheVariants.{Date}
 use Rattle.builtin_table.specs.declared.method.PlatformMethod.{PlatformMethod}
 use Rattle.builtin_table.specs.declared.method.PlatformMethod.TheVariants as P
 use Rattle.limit_meter.specs.Charges.{counter, limit_of}
-use Rattle.platform_errors.specs.declared.thrown.Thrown.TheVariants.{NullObject, Builtin}
+use Rattle.platform_errors.specs.declared.thrown.Thrown.TheVariants.{NullObject, NoErrors, Builtin}
 use Rattle.row_meaning.specs.Users.{user_id}
 use Rattle.save_meaning.specs.Results.{Gives, bind}
-use Rattle.request_states.specs.States.{State, Res, charge, throws, unbuilt}
+use Rattle.request_states.specs.States.{State, Res, charge, throws, unbuilt, with_heap}
+use Rattle.txn_heap.specs.Guards.{guard_of, takes_error, with_error}
 use Rattle.txn_heap.specs.declared.thing.Thing.{Thing}
 use Rattle.txn_heap.specs.declared.thing.Value.{Value}
 use Rattle.txn_heap.specs.declared.thing.Value.TheVariants.{Plain, Object}
@@ -77,14 +78,31 @@ abbrev pub rest_of : List Value → List Value
 rest_of [] = []
 rest_of (v ∷ vs) = vs
 
+-- ---- errors of records
+
+abbrev pub if_takes_error : Bool → Run → Run
+if_takes_error true go st = go st
+if_takes_error false go st = throws NoErrors st
+
+-- an error is added to a record that takes one; a null message throws before
+abbrev pub add_message : Cell → ℕ → Run
+add_message (C.Text message) place st =
+    if_takes_error (takes_error (guard_of st.world.heap place)) (λ s. Gives (Plain C.Null) (with_heap (with_error place message s.world.heap) s)) st
+add_message c place st = throws NullObject st
+
+abbrev pub add_error : Value → Value → Run
+add_error (Plain c) message st = throws NullObject st
+add_error (Object r) message st = add_message (cell_in message) r.place st
+
 module _ (program : Program) (ticket : Ticket) where
-  -- what asks the records of a statement, or the platform, isn't built yet
+  -- what asks the results of a statement, or for savepoints, isn't built yet
   abbrev pub on_platform : PlatformMethod → List Value → Run
   on_platform P.Today vs st = answered (meaning (B.Moment Date) (C.Moment ticket.now ∷ [])) st
   on_platform P.Now vs st = Gives (Plain (C.Moment ticket.now)) st
   on_platform P.UserId vs st = Gives (Plain (C.Id (user_id ticket.user))) st
   on_platform P.Message vs st = on_exception (λ t. message_answered (message_of_thing t)) (first_of vs) st
   on_platform P.TypeName vs st = on_exception (λ t. text_made (name_of_kind program (kind_of_thing t))) (first_of vs) st
+  on_platform P.AddError vs st = add_error (first_of vs) (first_of (rest_of vs)) st
   on_platform P.Queries vs st = count K.Queries st
   on_platform P.QueryRows vs st = count K.Rows st
   on_platform P.DmlStatements vs st = count K.Dml st

@@ -13,6 +13,7 @@ use Rattle.typed_program.specs.declared.unit.TypedClass.{TypedClass}
 use Rattle.typed_program.specs.declared.unit.TypedConstructor.{TypedConstructor}
 use Rattle.typed_program.specs.declared.unit.TypedField.{TypedField}
 use Rattle.typed_program.specs.declared.unit.TypedMethod.{TypedMethod}
+use Rattle.typed_program.specs.declared.unit.TypedTrigger.{TypedTrigger}
 
 abbrev pub class_at : Program → ℕ → Option TypedClass
 class_at program c = slice_get program.classes c
@@ -157,6 +158,14 @@ code_or (Some m) = m.body
 -- the statements of a method
 abbrev pub code_of : Program → ℕ → ℕ → Option (List TypedStmt)
 code_of program c m = code_or (method_at program c m)
+
+-- the statements of a trigger
+abbrev pub trigger_or : Option TypedTrigger → Option (List TypedStmt)
+trigger_or None = None
+trigger_or (Some t) = Some t.body
+
+abbrev pub trigger_at : Program → ℕ → Option (List TypedStmt)
+trigger_at program n = trigger_or (slice_get program.triggers n)
 
 -- ---- constructors
 

@@ -16,6 +16,7 @@ use Rattle.request_states.specs.Runs.{Setting, site_of}
 use Rattle.request_states.specs.States.{State, Res, charge, throws, unbuilt, with_line}
 use Rattle.request_states.specs.Values.{null, is_cell}
 use Rattle.static_types.specs.declared.kind.Primitive.TheVariants as Primitive
+use Rattle.trigger_things.specs.Things.{place_of}
 use Rattle.txn_heap.specs.declared.thing.Thing.{Thing}
 use Rattle.txn_heap.specs.declared.thing.Value.{Value}
 use Rattle.txn_heap.specs.declared.thing.Value.TheVariants.{Plain, Object}
@@ -44,7 +45,7 @@ use Rattle.apex_meaning.specs.Meanings.{Again, Body, Method, Do, Run, Behind, al
 use Rattle.apex_meaning.specs.Operations.{boolean, operated, chained}
 use Rattle.apex_meaning.specs.Places.{Target, LocalAt, StaticAt, FieldAt, CellAt, ItemAt, got, assigned, assigned_with, changed, field_in}
 use Rattle.apex_meaning.specs.Preparing.{prepared, new_instance}
-use Rattle.apex_meaning.specs.Queries.{all_bound, on_bound}
+use Rattle.apex_meaning.specs.Queries.{all_bound, on_bound, seen}
 use Rattle.apex_meaning.specs.Records.{cell_in as record_cell, children_in, only, parent_in}
 
 -- a variable, once its parts are evaluated
@@ -111,7 +112,7 @@ module _ (setting : Setting) (again : Again) where
   place_step (TypedPlace-F.«TypedPlace::Local» x) st = Gives (LocalAt x) st
   place_step (TypedPlace-F.«TypedPlace::Static» c n) st = Gives (StaticAt c n) st
   place_step (TypedPlace-F.«TypedPlace::Field» e c n) st = bind (e st) (λ v s. Gives (FieldAt v c n) s)
-  place_step (TypedPlace-F.«TypedPlace::Cell» e object field) st = bind (e st) (λ v s. Gives (CellAt v object field) s)
+  place_step (TypedPlace-F.«TypedPlace::Cell» e object field goes_on) st = bind (e st) (λ v s. Gives (CellAt v object field goes_on) s)
   place_step (TypedPlace-F.«TypedPlace::Index» e i) st = bind (e st) (λ v s. bind (i s) (λ w s1. Gives (ItemAt v w) s1))
 
   abbrev pub part_step : TypedPart-F Given Run Run Behind Where Entry Behind (ℕ × Run) → Behind
@@ -160,11 +161,11 @@ module _ (setting : Setting) (again : Again) (names : List (List ℕ)) where
   expr_step (TypedExpr-F.Debug e) st = bind (e st) (say setting again names)
   expr_step (TypedExpr-F.Query q binds) st =
       bind (all_of (map (λ (b : Given). b.1) binds) st) (λ vs s. on_bound (site_of setting) (queried q) (all_bound (map (λ (b : Given). b.0) binds) vs s.world.heap) s)
-  expr_step (TypedExpr-F.TriggerVariable t) st = unbuilt st
+  expr_step (TypedExpr-F.TriggerVariable t) st = field_in (place_of t) st.here.this st
 
   abbrev pub bind_step : TypedBind-F Given Run Run Behind Where Entry Behind (ℕ × Run) → Given
   bind_step (TypedBind-F.One e) = (One, e)
-  bind_step (TypedBind-F.Many how e) = (Many how, e)
+  bind_step (TypedBind-F.Many how e) = (Many how, λ st. bind (e st) seen)
 
   abbrev pub item_step : TypedItem-F Given Run Run Behind Where Entry Behind (ℕ × Run) → Entry
   item_step i st = bind (i.key st) (λ k s. bind (i.value s) (λ v s1. Gives (k, v) s1))

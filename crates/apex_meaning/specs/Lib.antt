@@ -9,6 +9,7 @@ pub mod Records
 pub mod Queries
 pub mod Places
 pub mod Expressions
+pub mod Firings
 pub mod Statements
 pub mod Bodies
 pub mod Runs

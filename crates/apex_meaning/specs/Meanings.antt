@@ -26,13 +26,14 @@ Do = State → Res (Unit {0})
 abbrev pub Test : Type 0
 Test = State → Res Bool
 
--- a body of code that isn't a block: a method or a declared constructor of a class, or the initial values of its fields or
--- of its statics
+-- a body of code that isn't a block: a method or a declared constructor of a class, the initial values of its fields or of its
+-- statics, or a trigger
 pub data Body : Type 0 where
   Method : ℕ → ℕ → Body
   Constructor : ℕ → ℕ → Body
   Fields : ℕ → Body
   Statics : ℕ → Body
+  Trigger : ℕ → Body
 
 -- the ways back in: a body runs on arguments, and on an instance or null; and a loop makes its next turn, by its condition,
 -- what it repeats, and what stands behind that

@@ -4,11 +4,13 @@ use Rattle.apex_num.specs.declared.cell.Cell.{Cell}
 use Rattle.apex_num.specs.declared.kind.LimitKind.TheVariants.{Alloc}
 use Rattle.builtin_table.specs.declared.method.Builtin.TheVariants as B
 use Rattle.builtin_table.specs.declared.method.ListMethod.TheVariants as L
-use Rattle.platform_errors.specs.declared.thrown.Thrown.TheVariants.{NullObject}
+use Rattle.platform_errors.specs.declared.thrown.Thrown.TheVariants.{NullObject, ReadOnly}
 use Rattle.save_meaning.specs.Results.{Gives, bind}
 use Rattle.request_states.specs.Runs.{Setting}
 use Rattle.request_states.specs.States.{State, Res, charge, set_local, throws, with_heap}
 use Rattle.request_states.specs.Values.{null}
+use Rattle.txn_heap.specs.Guards.{guard_of, takes_cell}
+use Rattle.txn_heap.specs.declared.thing.Record.{Record}
 use Rattle.txn_heap.specs.declared.thing.Thing.{Thing}
 use Rattle.txn_heap.specs.declared.thing.Thing.TheVariants as T
 use Rattle.txn_heap.specs.declared.thing.Value.{Value}
@@ -36,7 +38,7 @@ pub data Target : Type 0 where
   -- the instance, the class and its field
   FieldAt : Value → ℕ → ℕ → Target
   -- the record, its object and its field
-  CellAt : Value → ℕ → ℕ → Target
+  CellAt : Value → ℕ → ℕ → Bool → Target
   -- the list and the position
   ItemAt : Value → Value → Target
 
@@ -69,9 +71,17 @@ setting_units (Some c) = 0
 abbrev pub with_cell : ℕ → Value → ℕ → List Thing → List Thing
 with_cell field v at things = things_changed at (thing_after (Now.Know field (cell_in v))) things
 
-abbrev pub set_cell_in_thing : ℕ → Value → ℕ → Option Thing → Do
-set_cell_in_thing field v at (Some (T.Record r)) st =
+-- what guards a record of a trigger may not take the cell
+abbrev pub if_takes_cell : Bool → Do → Do
+if_takes_cell true go st = go st
+if_takes_cell false go st = throws ReadOnly st
+
+abbrev pub know_cell : ℕ → Value → ℕ → Record → Do
+know_cell field v at r st =
     bind (charge Alloc (setting_units (slice_index_or r.cells field None)) st) (λ u s. Gives tt (with_heap (with_cell field v at s.world.heap) s))
+
+abbrev pub set_cell_in_thing : ℕ → Value → ℕ → Option Thing → Do
+set_cell_in_thing field v at (Some (T.Record r)) st = if_takes_cell (takes_cell (guard_of st.world.heap at) field) (know_cell field v at r) st
 set_cell_in_thing field v at _ st = throws NullObject st
 
 abbrev pub set_cell : ℕ → Value → Value → Do
@@ -85,14 +95,14 @@ module _ (setting : Setting) where
   load (LocalAt x) st = Gives (slice_index_or st.here.locals x null) st
   load (StaticAt c n) st = Gives (or_null (static_at c n st.world.statics)) st
   load (FieldAt v c n) st = field_in (field_place setting.program c n) v st
-  load (CellAt v object field) st = calc (record_cell setting.schema field false v st.world.heap) st
+  load (CellAt v object field goes_on) st = calc (record_cell setting.schema field goes_on v st.world.heap) st
   load (ItemAt list at) st = on_collection (B.List L.Get) list (at ∷ []) st
 
   abbrev pub store : Target → Value → Do
   store (LocalAt x) v st = Gives tt (set_local x v st)
   store (StaticAt c n) v st = Gives tt (with_statics (with_static c n v st.world.statics) st)
   store (FieldAt o c n) v st = set_field (field_place setting.program c n) o v st
-  store (CellAt o object field) v st = set_cell field o v st
+  store (CellAt o object field goes_on) v st = set_cell field o v st
   store (ItemAt list at) v st = bind (on_collection (B.List L.Set) list (at ∷ v ∷ []) st) (λ u s. Gives tt s)
 
 module _ (setting : Setting) (again : Again) where

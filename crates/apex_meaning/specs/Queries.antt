@@ -25,6 +25,15 @@ use Rattle.apex_meaning.specs.Builtins.{cell_in}
 use Rattle.apex_meaning.specs.Collections.{items_of}
 use Rattle.apex_meaning.specs.Meanings.{Run}
 
+-- a list or a set behind IN is looked at in its place among the binds: a null one throws; its items are those that it has when
+-- all binds were evaluated
+abbrev pub seen_items : Option (List Value) → Value → Run
+seen_items None v st = throws NullObject st
+seen_items (Some vs) v st = Gives v st
+
+abbrev pub seen : Value → Run
+seen v st = seen_items (items_of v st.world.heap) v st
+
 -- ---- the values of binds, once all were evaluated
 
 -- they are given, or something is thrown in their place

@@ -23,6 +23,7 @@ use Rattle.value_operators.specs.Operators.{converted}
 use Rattle.apex_meaning.specs.Collections.{items_of}
 use Rattle.apex_meaning.specs.Exceptions.{Clause, catching, throw}
 use Rattle.apex_meaning.specs.Expressions.{value_of}
+use Rattle.apex_meaning.specs.Firings.{code_of}
 use Rattle.apex_meaning.specs.Meanings.{Again, Do, Run, Test, all_do, calc, dropped, finally, looping, test, turn, truth_of}
 
 -- ---- loops over collections
@@ -109,7 +110,7 @@ module _ (setting : Setting) (again : Again) (names : List (List ℕ)) where
   started TypedStmt-F.Continue st = Stops (Leaves Continues) st
   started (TypedStmt-F.Throw e) st = bind (value e st) throw
   started (TypedStmt-F.Try body clauses last) st = finally_or (all_or last) (catching setting.program clauses (all_do body st))
-  started (TypedStmt-F.Dml op what e) st = bind (value e st) (λ v s. save_these (site_of setting) (op_of op) (records_of what v s.world.heap) s)
+  started (TypedStmt-F.Dml op what e) st = bind (value e st) (λ v s. save_these (site_of setting) (code_of setting again) (op_of op) (records_of what v s.world.heap) s)
 
   -- a statement costs a step when it starts; one in braces costs nothing beside those in it
   abbrev pub stmt_step : TypedStmt-F Do Clause → Do

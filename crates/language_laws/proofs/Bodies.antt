@@ -14,9 +14,9 @@ use Rattle.typed_program.specs.declared.unit.TypedConstructor.{TypedConstructor}
 use Rattle.typed_program.specs.declared.unit.TypedField.{TypedField}
 use Rattle.apex_meaning.specs.Bodies as B
 use Rattle.apex_meaning.specs.Bodies.{rounds, enough, body_runs}
-use Rattle.apex_meaning.specs.Classes.{and_fields, code_of, constructor_at, field_place, fields_at, no_starts, Starts, starts}
+use Rattle.apex_meaning.specs.Classes.{and_fields, code_of, constructor_at, field_place, fields_at, no_starts, Starts, starts, trigger_at}
 use Rattle.apex_meaning.specs.Expressions.{value_of}
-use Rattle.apex_meaning.specs.Meanings.{Again, Body, Method, Constructor, Fields, Statics, Do, Test, looping, returned}
+use Rattle.apex_meaning.specs.Meanings.{Again, Body, Method, Constructor, Fields, Statics, Trigger, Do, Test, looping, returned}
 use Rattle.apex_meaning.specs.Preparing as Prep
 use Rattle.apex_meaning.specs.Preparing.{with_statics}
 use Rattle.apex_meaning.specs.Statements.{does_all}
@@ -119,6 +119,7 @@ module _ (setting : Setting) (again : Again) (names : List (List ℕ)) (p : ℕ)
     body_does (Constructor c k) = constructs c (constructor_at setting.program c k)
     body_does (Fields c) = initial_fields c 0 (fields_at setting.program c)
     body_does (Statics c) = initial_statics c 0 (fields_at setting.program c)
+    body_does (Trigger k) = method_does (trigger_at setting.program k)
 
     body_run : (b : Body) (args : List Value) (this : Value) → Paid (body_runs setting again names b args this)
     body_run b args this =

@@ -6,6 +6,7 @@ pub mod Saves
 pub mod Queries
 pub mod Things
 pub mod Classes
+pub mod Firings
 pub mod Places
 pub mod Trees
 pub mod Stmts

@@ -18,7 +18,7 @@ use Rattle.value_operators.specs.Operators.{Calc}
 use Rattle.value_operators.specs.declared.calculated.Calculated.TheVariants.{Val, Fails}
 use Rattle.apex_meaning.specs.Meanings.{Do, Run, all_do, all_of, dropped, calc, known_truth, truth_of, test, back, in_here, returned, no_longer_open, called, looping, finally}
 use Rattle.language_laws.specs.Limits.{Passed, by_ones}
-use Rattle.language_laws.proofs.Worlds.{Sound, spent, most_spent, spent_at_most, Later, later_same, later_kept, later_on, later_charged, later_left, spends_steps, spends_units}
+use Rattle.language_laws.proofs.Worlds.{Sound, spent, most_spent, spent_at_most, Later, later_same, later_kept, later_on, later_charged, left_calls, later_left, spends_steps, spends_units}
 
 module _ (program : Program) where
   -- what holds of an end, where code began in the first world
@@ -189,8 +189,8 @@ module _ (program : Program) where
   paid_returned n f h = record { at = λ st s lt. returned_comes st.world (f st) (h.at st s lt) }
 
   open_comes : {A : Type 0} (w : World) (res : Res A) → Comes w res → Comes w (no_longer_open res)
-  open_comes w (Gives a s) c = let l = c.holds in record { holds = later_on program _ _ _ l (later_left program s.world l.sound) }
-  open_comes w (Stops (Leaves why) s) c = let l = c.holds in record { holds = later_on program _ _ _ l (later_left program s.world l.sound) }
+  open_comes w (Gives a s) c = let l = c.holds in record { holds = later_on program _ _ _ l (later_left program s.world Calls left_calls l.sound) }
+  open_comes w (Stops (Leaves why) s) c = let l = c.holds in record { holds = later_on program _ _ _ l (later_left program s.world Calls left_calls l.sound) }
   open_comes w (Stops (Closes f) s) c = record { holds = c.holds }
 
   paid_open : {A : Type 0} (n : ℕ) (f : State → Res A) → Paid n f → Paid n (λ st. no_longer_open (f st))

@@ -5,13 +5,15 @@ use Rattle.apex_num.specs.declared.kind.LimitKind.TheVariants.{Alloc}
 use Rattle.builtin_table.specs.declared.method.Builtin.TheVariants as B
 use Rattle.builtin_table.specs.declared.method.ListMethod.TheVariants as L
 use Rattle.heap_methods.specs.Operands.{or_null}
-use Rattle.platform_errors.specs.declared.thrown.Thrown.TheVariants.{NullObject, InvalidConversion}
+use Rattle.platform_errors.specs.declared.thrown.Thrown.TheVariants.{NullObject, InvalidConversion, ReadOnly}
 use Rattle.save_meaning.specs.Results.{Gives}
 use Rattle.request_states.specs.Runs.{Setting}
 use Rattle.request_states.specs.Expressions as Small
 use Rattle.request_states.specs.States.{charge, with_heap, with_line, set_local}
 use Rattle.request_states.specs.Values.{null}
+use Rattle.txn_heap.specs.Guards.{guard_of, takes_cell}
 use Rattle.txn_heap.specs.Statics.{static_at, with_static}
+use Rattle.txn_heap.specs.declared.thing.Record.{Record}
 use Rattle.txn_heap.specs.declared.thing.Thing.{Thing}
 use Rattle.txn_heap.specs.declared.thing.Thing.TheVariants as T
 use Rattle.txn_heap.specs.declared.thing.Value.{Value}
@@ -26,7 +28,7 @@ use Rattle.value_texts.specs.Texts.{text_of}
 use Rattle.apex_meaning.specs.Classes.{field_place, target}
 use Rattle.apex_meaning.specs.Exceptions as X
 use Rattle.apex_meaning.specs.Expressions as E
-use Rattle.apex_meaning.specs.Meanings.{Again, Method, Run, calc}
+use Rattle.apex_meaning.specs.Meanings.{Again, Do, Method, Run, calc}
 use Rattle.apex_meaning.specs.Places as Pl
 use Rattle.apex_meaning.specs.Places.{Target, LocalAt, StaticAt, FieldAt, CellAt, ItemAt}
 use Rattle.apex_meaning.specs.Preparing.{with_statics}
@@ -59,10 +61,17 @@ module _ (program : Program) (n : ℕ) where
 
   -- ---- cells of records
 
-  set_cell_in_thing : (field : ℕ) (v : Value) (at : ℕ) (o : Option Thing) → Paid program n (Pl.set_cell_in_thing field v at o)
-  set_cell_in_thing field v at (Some (T.Record r)) =
+  if_takes_cell : (b : Bool) (go : Do) → Paid program n go → Paid program n (Pl.if_takes_cell b go)
+  if_takes_cell true go h = h
+  if_takes_cell false go h = paid_throws program n ReadOnly
+
+  know_cell : (field : ℕ) (v : Value) (at : ℕ) (r : Record) → Paid program n (Pl.know_cell field v at r)
+  know_cell field v at r =
       paid_bind program n (charge Alloc (Pl.setting_units (slice_index_or r.cells field None))) _ (paid_charge program n Alloc (Pl.setting_units (slice_index_or r.cells field None)) (freely program))
       (λ u. paid_puts program n (λ s. tt) (λ s. with_heap (Pl.with_cell field v at s.world.heap) s) (λ s h. later_kept program s.world _ h refl refl refl))
+
+  set_cell_in_thing : (field : ℕ) (v : Value) (at : ℕ) (o : Option Thing) → Paid program n (Pl.set_cell_in_thing field v at o)
+  set_cell_in_thing field v at (Some (T.Record r)) = record { at = λ st h lt. (if_takes_cell (takes_cell (guard_of st.world.heap at) field) (Pl.know_cell field v at r) (know_cell field v at r)).at st h lt }
   set_cell_in_thing field v at o = paid_throws program n NullObject
 
   pub paid_set_cell : (field : ℕ) (o v : Value) → Paid program n (Pl.set_cell field o v)
@@ -94,14 +103,14 @@ module _ (setting : Setting) (n : ℕ) where
   paid_load (LocalAt x) = paid_gives setting.program n (λ s. slice_index_or s.here.locals x null)
   paid_load (StaticAt c k) = paid_gives setting.program n (λ s. or_null (static_at c k s.world.statics))
   paid_load (FieldAt v c k) = paid_field_in setting.program n (field_place setting.program c k) v
-  paid_load (CellAt v object field) = paid_seen setting.program n (record_cell setting.schema field false v)
+  paid_load (CellAt v object field goes_on) = paid_seen setting.program n (record_cell setting.schema field goes_on v)
   paid_load (ItemAt list at) = paid_on_collection setting.program n (B.List L.Get) list (at ∷ [])
 
   pub paid_store : (t : Target) (v : Value) → Paid setting.program n (Pl.store setting t v)
   paid_store (LocalAt x) v = paid_puts setting.program n (λ s. tt) (set_local x v) (λ s h. later_same setting.program s.world h)
   paid_store (StaticAt c k) v = paid_puts setting.program n (λ s. tt) (λ s. with_statics (with_static c k v s.world.statics) s) (λ s h. later_statics setting.program s.world _ h (stay_written c k v s.world.statics))
   paid_store (FieldAt o c k) v = paid_set_field setting.program n (field_place setting.program c k) o v
-  paid_store (CellAt o object field) v = paid_set_cell setting.program n field o v
+  paid_store (CellAt o object field goes_on) v = paid_set_cell setting.program n field o v
   paid_store (ItemAt list at) v = paid_bind setting.program n _ _ (paid_on_collection setting.program n (B.List L.Set) list (at ∷ v ∷ [])) (λ u. paid_gives setting.program n (λ s. tt))
 
 module _ (setting : Setting) (again : Again) (p : ℕ) (enough : Enough setting.program again p) where
@@ -112,7 +121,7 @@ module _ (setting : Setting) (again : Again) (p : ℕ) (enough : Enough setting.
   paid_ready (StaticAt c k) = paid_prepared program again p enough c
   paid_ready (LocalAt x) = paid_gives program (suc p) (λ s. tt)
   paid_ready (FieldAt v c k) = paid_gives program (suc p) (λ s. tt)
-  paid_ready (CellAt v object field) = paid_gives program (suc p) (λ s. tt)
+  paid_ready (CellAt v object field goes_on) = paid_gives program (suc p) (λ s. tt)
   paid_ready (ItemAt list at) = paid_gives program (suc p) (λ s. tt)
 
   pub paid_got : (t : Target) → Paid program (suc p) (Pl.got setting again t)

@@ -1,5 +1,5 @@
 -- Queries keep a request in order.
-use Rattle.std.proofs.Common.{ℕ, Bool, true, false, List, length, pos, refl}
+use Rattle.std.proofs.Common.{ℕ, Bool, true, false, List, length, pos, Option, None, Some, refl}
 use Rattle.apex_num.specs.declared.cell.Cell.TheVariants as C
 use Rattle.apex_num.specs.declared.kind.LimitKind.TheVariants.{Queries, Rows, Alloc}
 use Rattle.apex_rows.specs.declared.query.Bind.{Bind}
@@ -9,7 +9,7 @@ use Rattle.apex_rows.specs.declared.row.Found.{Found}
 use Rattle.apex_rows.specs.declared.row.Row.{Row}
 use Rattle.apex_schema.specs.declared.schema.Mode.{Mode}
 use Rattle.platform_errors.specs.declared.thrown.Thrown.{Thrown}
-use Rattle.platform_errors.specs.declared.thrown.Thrown.TheVariants.{InvalidLimit}
+use Rattle.platform_errors.specs.declared.thrown.Thrown.TheVariants.{InvalidLimit, NullObject}
 use Rattle.query_meaning.specs.Queries as Q
 use Rattle.query_meaning.specs.Queries.{Answered, Counted, Listed, all_numbers, answer_of, finding, holding, rows_in, units_of}
 use Rattle.query_records.specs.Records.{records_made}
@@ -20,13 +20,24 @@ use Rattle.save_meaning.specs.Sites.{Site}
 use Rattle.save_meaning.specs.Transactions.{charge}
 use Rattle.store_inquiries.specs.Inquiries.{inquire}
 use Rattle.request_states.specs.States.{keeps, saved, thrown, with_heap}
+use Rattle.txn_heap.specs.declared.thing.Value.{Value}
 use Rattle.txn_heap.specs.declared.thing.Value.TheVariants.{Plain}
 use Rattle.typed_program.specs.declared.program.Program.{Program}
+use Rattle.apex_meaning.specs.Collections.{items_of}
 use Rattle.apex_meaning.specs.Queries as E
 use Rattle.apex_meaning.specs.Queries.{Bound, Has, Throws}
 use Rattle.language_laws.proofs.Paid.{Paid, paid_gives, paid_leaves, paid_puts, paid_bind, freely, paid_charge, paid_leaving, paid_throws}
 use Rattle.language_laws.proofs.Phases.{paid_inquire}
 use Rattle.language_laws.proofs.Worlds.{later_kept}
+
+module _ (program : Program) (n : ℕ) where
+  -- what is looked at behind IN
+  seen_items : (o : Option (List Value)) (v : Value) → Paid program n (E.seen_items o v)
+  seen_items None v = paid_throws program n NullObject
+  seen_items (Some vs) v = paid_gives program n (λ s. v)
+
+  pub paid_seen : (v : Value) → Paid program n (E.seen v)
+  paid_seen v = record { at = λ st h lt. (seen_items (items_of v st.world.heap) v).at st h lt }
 
 module _ (program : Program) (site : Site) (n : ℕ) where
   module _ (mode : Mode) (binds : List Bind) where

@@ -24,9 +24,9 @@ use Rattle.save_statements.specs.declared.statement.Placed.{Placed}
 use Rattle.save_statements.specs.declared.statement.RecordOutcome.{RecordOutcome}
 use Rattle.save_statements.specs.declared.statement.Told.{Told}
 use Rattle.request_states.specs.States.{State, keeps, saved, thrown, with_heap}
-use Rattle.request_states.specs.Statements.{name_records, no_code, rows_in, save_at, save_these}
+use Rattle.request_states.specs.Statements.{name_records, rows_in, save_at, save_these}
 use Rattle.typed_program.specs.declared.program.Program.{Program}
-use Rattle.language_laws.proofs.Paid.{Paid, paid_gives, paid_puts, paid_bind, paid_before, freely, paid_charge, paid_leaving, paid_throws, paid_unbuilt}
+use Rattle.language_laws.proofs.Paid.{Paid, paid_gives, paid_puts, paid_bind, paid_before, freely, paid_charge, paid_leaving, paid_throws}
 use Rattle.language_laws.proofs.Phases.{Orderly, paid_chunk}
 use Rattle.language_laws.proofs.Worlds.{Sound, Later, later_same, later_kept}
 
@@ -101,20 +101,17 @@ module _ (program : Program) (site : Site) (n : ℕ) (code : Code State) (orderl
       (λ u. paid_bind program n (charge keeps Saved (length rows)) _ (paid_charge program n Saved (length rows) (freely program))
       (λ v. without_double _ _ _ (of_object all (slice_get site.schema.objects object) rows)))
 
-module _ (program : Program) (site : Site) (n : ℕ) where
-  -- ---- saves of a program: there are no triggers and no roll-ups around them yet
+module _ (program : Program) (site : Site) (n : ℕ) (code : Code State) (orderly : Orderly program n code) where
+  -- ---- saves of a program
 
-  nothing_around : Orderly program n no_code
-  nothing_around = record { fires = λ k c. paid_unbuilt program n; rolls = λ object rs. paid_gives program n (λ s. rs) }
-
-  paid_save_at : (op : Op) (object : ℕ) (ps : List ℕ) → Paid program n (save_at site op object ps)
+  paid_save_at : (op : Op) (object : ℕ) (ps : List ℕ) → Paid program n (save_at site code op object ps)
   paid_save_at op object ps = record {
     at = λ st h lt.
-        (paid_bind program n (λ s. saved (S.save keeps site no_code op (ByCode st.here.mode) object true (rows_in st.world.heap ps) s)) (λ outcomes s. Gives tt (with_heap (name_records ps outcomes s.world.heap) s))
-        (paid_leaving program n thrown _ (paid_save program site n no_code nothing_around op (ByCode st.here.mode) object true (rows_in st.world.heap ps)))
+        (paid_bind program n (λ s. saved (S.save keeps site code op (ByCode st.here.mode) object true (rows_in st.world.heap ps) s)) (λ outcomes s. Gives tt (with_heap (name_records ps outcomes s.world.heap) s))
+        (paid_leaving program n thrown _ (paid_save program site n code orderly op (ByCode st.here.mode) object true (rows_in st.world.heap ps)))
         (λ outcomes. paid_puts program n (λ s. tt) (λ s. with_heap (name_records ps outcomes s.world.heap) s) (λ s k. later_kept program s.world _ k refl refl refl))).at st h lt;
   }
 
-  pub paid_save_these : (op : Op) (r : Option (ℕ × List ℕ)) → Paid program n (save_these site op r)
+  pub paid_save_these : (op : Op) (r : Option (ℕ × List ℕ)) → Paid program n (save_these site code op r)
   paid_save_these op None = paid_throws program n NullObject
   paid_save_these op (Some r) = paid_save_at op r.0 r.1

@@ -29,10 +29,12 @@ use Rattle.value_operators.specs.Operators.{converted}
 use Rattle.apex_meaning.specs.Collections.{items_of}
 use Rattle.apex_meaning.specs.Exceptions as X
 use Rattle.apex_meaning.specs.Exceptions.{Clause, catching, caught_by, clause_for, takes, throw}
+use Rattle.apex_meaning.specs.Firings.{code_of}
 use Rattle.apex_meaning.specs.Meanings.{Again, Do, all_do, calc, test}
 use Rattle.apex_meaning.specs.Statements as D
 use Rattle.language_laws.proofs.Paid.{Paid as From, Comes, Each, none, more, paid_at, paid_gives, paid_leaves, paid_bind, paid_before, freely, paid_charge, paid_throws, paid_calc, paid_test, paid_dropped, paid_make, paid_looping, paid_finally, paid_all_do}
 use Rattle.language_laws.proofs.Classes.{Enough}
+use Rattle.language_laws.proofs.Firings.{orderly}
 use Rattle.language_laws.proofs.Saves.{paid_save_these}
 use Rattle.language_laws.proofs.Trees.{paid_expr}
 use Rattle.language_laws.proofs.Worlds.{later_same, spent, most_spent}
@@ -189,8 +191,8 @@ module _ (setting : Setting) (again : Again) (names : List (List ℕ)) (p : ℕ)
   items : (slot : ℕ) (how : Conversion) (v : Value) (x : SuchStmt) → Paid (λ s. D.each_of slot how (D.does setting again names x.0) (items_of v s.world.heap) s)
   items slot how v x = record { at = λ st s lt. (paid_each_of setting.program (suc p) slot how (D.does setting again names x.0) (items_of v st.world.heap) x.1).at st s lt }
 
-  saves : (op : DmlOp) (what : Saved) (v : Value) → Paid (λ s. save_these (site_of setting) (op_of op) (records_of what v s.world.heap) s)
-  saves op what v = record { at = λ st s lt. (paid_save_these setting.program (site_of setting) (suc p) (op_of op) (records_of what v st.world.heap)).at st s lt }
+  saves : (op : DmlOp) (what : Saved) (v : Value) → Paid (λ s. save_these (site_of setting) (code_of setting again) (op_of op) (records_of what v s.world.heap) s)
+  saves op what v = record { at = λ st s lt. (paid_save_these setting.program (site_of setting) (suc p) (code_of setting again) (orderly setting again p enough) (op_of op) (records_of what v st.world.heap)).at st s lt }
 
   stmt_layer : (y : TypedStmt-F SuchStmt SuchCatch) → OfStmt (roll-TypedStmt (map-TypedStmt SuchStmt SuchCatch TypedStmt TypedCatch (λ e. e.0) (λ e. e.0) y))
   stmt_layer (TypedStmt-F.Block ss) = stmt_does (TypedStmt-F.Block (map (λ s. s.0) ss)) (stmts ss)

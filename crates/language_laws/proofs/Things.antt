@@ -17,11 +17,12 @@ use Rattle.builtin_table.specs.declared.method.PlatformMethod.TheVariants as P
 use Rattle.heap_methods.specs.Methods.{method, units}
 use Rattle.heap_methods.specs.Outcomes.{Outcome, Done, Answers, Throws, done as things_done, units_of}
 use Rattle.heap_methods.specs.Making.{copied}
-use Rattle.platform_errors.specs.declared.thrown.Thrown.TheVariants.{NullObject}
-use Rattle.save_meaning.specs.Results.{bind}
+use Rattle.platform_errors.specs.declared.thrown.Thrown.TheVariants.{NullObject, NoErrors}
+use Rattle.save_meaning.specs.Results.{Gives, bind}
 use Rattle.request_states.specs.Expressions as Small
 use Rattle.save_meaning.specs.Sites.{Site}
-use Rattle.request_states.specs.States.{State, World, charge}
+use Rattle.request_states.specs.States.{State, World, charge, with_heap}
+use Rattle.txn_heap.specs.Guards.{guard_of, takes_error, with_error}
 use Rattle.txn_heap.specs.declared.thing.Thing.{Thing}
 use Rattle.txn_heap.specs.declared.thing.Value.{Value}
 use Rattle.txn_heap.specs.declared.thing.Value.TheVariants.{Plain, Object}
@@ -153,6 +154,30 @@ module _ (program : Program) (n : ℕ) where
   on_exception go (Plain c) h = paid_throws program n NullObject
   on_exception go (Object r) h = record { at = λ st k lt. (if_exception (X.kind_of_thing (slice_get st.world.heap r.place)) (go (slice_get st.world.heap r.place)) (h (slice_get st.world.heap r.place))).at st k lt }
 
+  -- ---- errors of records
+
+  if_takes_error : (b : Bool) (go : Run) → Paid program n go → Paid program n (Built.if_takes_error b go)
+  if_takes_error true go h = h
+  if_takes_error false go h = paid_throws program n NoErrors
+
+  add_message : (c : Cell) (place : ℕ) → Paid program n (Built.add_message c place)
+  add_message (C.Text message) place = record {
+    at = λ st h lt.
+        (if_takes_error (takes_error (guard_of st.world.heap place)) (λ s. Gives (Plain C.Null) (with_heap (with_error place message s.world.heap) s))
+        (paid_puts program n (λ s. Plain C.Null) (λ s. with_heap (with_error place message s.world.heap) s) (λ s k. later_kept program s.world _ k refl refl refl))).at st h lt;
+  }
+  add_message C.Null place = paid_throws program n NullObject
+  add_message (C.Bool x) place = paid_throws program n NullObject
+  add_message (C.Num x) place = paid_throws program n NullObject
+  add_message (C.Id x) place = paid_throws program n NullObject
+  add_message (C.Day x) place = paid_throws program n NullObject
+  add_message (C.Moment x) place = paid_throws program n NullObject
+  add_message (C.Whole x) place = paid_throws program n NullObject
+
+  add_error : (v message : Value) → Paid program n (Built.add_error v message)
+  add_error (Plain c) message = paid_throws program n NullObject
+  add_error (Object r) message = add_message (Built.cell_in message) r.place
+
   module _ (ticket : Ticket) where
     counted : (k : LimitKind) → Paid program n (Built.count k)
     counted k = paid_gives program n (λ s. _)
@@ -163,6 +188,7 @@ module _ (program : Program) (n : ℕ) where
     on_platform P.UserId vs = paid_gives program n (λ s. _)
     on_platform P.Message vs = on_exception _ (Built.first_of vs) (λ t. message_answered (X.message_of_thing t))
     on_platform P.TypeName vs = on_exception _ (Built.first_of vs) (λ t. paid_text (X.name_of_kind program (X.kind_of_thing t)))
+    on_platform P.AddError vs = add_error (Built.first_of vs) (Built.first_of (Built.rest_of vs))
     on_platform P.Queries vs = paid_gives program n (λ s. _)
     on_platform P.QueryRows vs = paid_gives program n (λ s. _)
     on_platform P.DmlStatements vs = paid_gives program n (λ s. _)

@@ -26,6 +26,7 @@ use Rattle.request_states.specs.Expressions as Small
 use Rattle.request_states.specs.Runs.{Setting, site_of}
 use Rattle.request_states.specs.States.{State, Res}
 use Rattle.request_states.specs.Values.{null, is_cell}
+use Rattle.trigger_things.specs.Things.{place_of}
 use Rattle.apex_meaning.specs.Classes.{field_place}
 use Rattle.apex_meaning.specs.Exceptions.{is_declared, is_built_in}
 use Rattle.apex_meaning.specs.Expressions as E
@@ -33,12 +34,12 @@ use Rattle.apex_meaning.specs.Expressions.{Where, Entry, Given, all_entries, par
 use Rattle.apex_meaning.specs.Meanings.{Again, Run, Behind, all_of, calc, test}
 use Rattle.apex_meaning.specs.Operations.{boolean, chained}
 use Rattle.apex_meaning.specs.Places.{LocalAt, StaticAt, FieldAt, CellAt, ItemAt}
-use Rattle.apex_meaning.specs.Queries.{all_bound}
+use Rattle.apex_meaning.specs.Queries.{all_bound, seen}
 use Rattle.apex_meaning.specs.Records.{cell_in, children_in, only, parent_in}
-use Rattle.language_laws.proofs.Paid.{Paid as From, Each, none, more, paid_gives, paid_bind, paid_unbuilt, paid_calc, paid_test, paid_all_of}
+use Rattle.language_laws.proofs.Paid.{Paid as From, Each, none, more, paid_gives, paid_bind, paid_calc, paid_test, paid_all_of}
 use Rattle.language_laws.proofs.Classes.{Enough, paid_new}
 use Rattle.language_laws.proofs.Places as Pl
-use Rattle.language_laws.proofs.Queries.{paid_on_bound}
+use Rattle.language_laws.proofs.Queries.{paid_on_bound, paid_seen}
 use Rattle.language_laws.proofs.Things as Th
 
 module _ (setting : Setting) (again : Again) (names : List (List ℕ)) (p : ℕ) (enough : Enough setting.program again p) where
@@ -243,7 +244,7 @@ module _ (setting : Setting) (again : Again) (names : List (List ℕ)) (p : ℕ)
   expr_layer (TypedExpr-F.«TypedExpr::Local» x) = expr_does (TypedExpr-F.«TypedExpr::Local» x) (paid_gives setting.program (suc p) (λ s. slice_index_or s.here.locals x null))
   expr_layer (TypedExpr-F.«TypedExpr::Static» c m) = expr_does (TypedExpr-F.«TypedExpr::Static» c m) (Pl.paid_got setting again p enough (StaticAt c m))
   expr_layer TypedExpr-F.This = expr_does TypedExpr-F.This (paid_gives setting.program (suc p) (λ s. s.here.this))
-  expr_layer (TypedExpr-F.TriggerVariable v) = expr_does (TypedExpr-F.TriggerVariable v) (paid_unbuilt setting.program (suc p))
+  expr_layer (TypedExpr-F.TriggerVariable v) = expr_does (TypedExpr-F.TriggerVariable v) (record { at = λ st s lt. (Pl.paid_field_in setting.program (suc p) (place_of v) st.here.this).at st s lt })
   expr_layer (TypedExpr-F.Postfix x ps) = expr_does (TypedExpr-F.Postfix x.0 (map (λ x. x.0) ps)) (paid_bind setting.program (suc p) (expr_run x.0) (parts_of (map part_run (map (λ x. x.0) ps))) x.1 (path ps))
   expr_layer (TypedExpr-F.Chain x os) = expr_does (TypedExpr-F.Chain x.0 (map (λ x. x.0) os)) (paid_bind setting.program (suc p) (expr_run x.0) (chained (map operand_run (map (λ x. x.0) os))) x.1 (chain os))
   expr_layer (TypedExpr-F.Convert To.Same x) = expr_does (TypedExpr-F.Convert To.Same x.0) (converts To.Same x)
@@ -275,7 +276,7 @@ module _ (setting : Setting) (again : Again) (names : List (List ℕ)) (p : ℕ)
 
   bind_layer : (y : BindLayer) → Paid (bind_run (bind_in y)).1
   bind_layer (TypedBind-F.One x) = bind_does (TypedBind-F.One x.0) x.1
-  bind_layer (TypedBind-F.Many how x) = bind_does (TypedBind-F.Many how x.0) x.1
+  bind_layer (TypedBind-F.Many how x) = bind_does (TypedBind-F.Many how x.0) (paid_bind setting.program (suc p) (expr_run x.0) seen x.1 (paid_seen setting.program (suc p)))
 
   new_layer : (y : NewLayer) → Paid (new_run (new_in y))
   new_layer (TypedNew-F.Instance c k es) = new_does (TypedNew-F.Instance c k (map (λ x. x.0) es)) (paid_bind setting.program (suc p) (all_of (map expr_run (map (λ x. x.0) es))) _ (values es) (λ vs. paid_new setting.program again p enough c k vs))
@@ -300,7 +301,7 @@ module _ (setting : Setting) (again : Again) (names : List (List ℕ)) (p : ℕ)
   place_layer (TypedPlace-F.«TypedPlace::Local» x) = place_does (TypedPlace-F.«TypedPlace::Local» x) (paid_gives setting.program (suc p) (λ s. LocalAt x))
   place_layer (TypedPlace-F.«TypedPlace::Static» c m) = place_does (TypedPlace-F.«TypedPlace::Static» c m) (paid_gives setting.program (suc p) (λ s. StaticAt c m))
   place_layer (TypedPlace-F.«TypedPlace::Field» x c m) = place_does (TypedPlace-F.«TypedPlace::Field» x.0 c m) (paid_bind setting.program (suc p) (expr_run x.0) _ x.1 (λ v. paid_gives setting.program (suc p) (λ s. FieldAt v c m)))
-  place_layer (TypedPlace-F.«TypedPlace::Cell» x o m) = place_does (TypedPlace-F.«TypedPlace::Cell» x.0 o m) (paid_bind setting.program (suc p) (expr_run x.0) _ x.1 (λ v. paid_gives setting.program (suc p) (λ s. CellAt v o m)))
+  place_layer (TypedPlace-F.«TypedPlace::Cell» x o m g) = place_does (TypedPlace-F.«TypedPlace::Cell» x.0 o m g) (paid_bind setting.program (suc p) (expr_run x.0) _ x.1 (λ v. paid_gives setting.program (suc p) (λ s. CellAt v o m g)))
   place_layer (TypedPlace-F.«TypedPlace::Index» x i) =
       place_does (TypedPlace-F.«TypedPlace::Index» x.0 i.0) (paid_bind setting.program (suc p) (expr_run x.0) _ x.1 (λ v. paid_bind setting.program (suc p) (expr_run i.0) _ i.1 (λ w. paid_gives setting.program (suc p) (λ s. ItemAt v w))))
 

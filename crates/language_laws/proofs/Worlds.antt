@@ -59,12 +59,27 @@ sound_charged k n es f h = record { steps = h.steps; units = h.units; within = w
     within : (j : LimitKind) → counter j (Charged k n ∷ es) ≤ limit_of j
     within j = case j (is_kind j k) (⊎_elim (λ e u. one_kind j k e.1) (λ e u. absurd (true≢false (sym u ∙ e.0))) (eqb_tells (place_of j) (place_of k)))
 
-pub sound_left : (es : List Entry) → Sound es → Sound (Left Calls ∷ es)
-sound_left es h = record {
-  steps = zero-add _ ∙ h.steps;
-  units = zero-add _ ∙ h.units;
-  within = λ j. let l = h.within j in let m = fewer (charged j es) (cond (is_kind j Calls) 1 0) (leaves j es) in omega arith;
+-- neither steps nor units
+pub record Leavable (k : LimitKind) : Type 0 where
+  pub no_steps : is_kind Steps k ≡ false
+  pub no_units : is_kind Alloc k ≡ false
+
+none_more : (b : Bool) (n : ℕ) → b ≡ false → cond b 1 0 + n ≡ n
+none_more true n e = absurd (true≢false e)
+none_more false n e = zero-add n
+
+pub sound_left : (k : LimitKind) (es : List Entry) → Leavable k → Sound es → Sound (Left k ∷ es)
+sound_left k es not h = record {
+  steps = none_more (is_kind Steps k) _ not.no_steps ∙ h.steps;
+  units = none_more (is_kind Alloc k) _ not.no_units ∙ h.units;
+  within = λ j. let l = h.within j in let m = fewer (charged j es) (cond (is_kind j k) 1 0) (leaves j es) in omega arith;
 }
+
+pub left_calls : Leavable Calls
+left_calls = record { no_steps = refl; no_units = refl }
+
+pub left_depth : Leavable Depth
+left_depth = record { no_steps = refl; no_units = refl }
 
 pub sound_none : Sound []
 sound_none = record { steps = refl; units = refl; within = λ j. omega arith }
@@ -147,8 +162,8 @@ module _ (program : Program) where
   pub later_charged : (w : World) (k : LimitKind) (n : ℕ) → fits k n w.txn.charges ≡ true → Sound w.txn.charges → Later w (record w { txn = record (w.txn) { charges = Charged k n ∷ w.txn.charges } })
   later_charged w k n f h = later_by w _ (sound_charged k n _ f h) (charged_le _ _ _ (cond (is_kind Steps k) n 0) (cond (is_kind Alloc k) n 0)) refl
 
-  pub later_left : (w : World) → Sound w.txn.charges → Later w (record w { txn = record (w.txn) { charges = Left Calls ∷ w.txn.charges } })
-  later_left w h = later_by w _ (sound_left _ h) (omega arith) refl
+  pub later_left : (w : World) (k : LimitKind) → Leavable k → Sound w.txn.charges → Later w (record w { txn = record (w.txn) { charges = Left k ∷ w.txn.charges } })
+  later_left w k not h = later_by w _ (sound_left k _ not h) (omega arith) refl
 
   step_spends : (a b c n : ℕ) → 1 ≤ n → 1 + (a + b + c) ≤ (n + a) + (0 + b) + c
   step_spends a b c n le = omega arith

@@ -20,15 +20,17 @@ use Rattle.typed_program.specs.declared.unit.ParentClass.{ParentClass}
 use Rattle.typed_program.specs.declared.unit.ParentClass.TheVariants as Parent
 use Rattle.typed_program.specs.declared.unit.TypedClass.{TypedClass}
 use Rattle.typed_program.specs.declared.unit.TypedConstructor.{TypedConstructor}
+use Rattle.typed_program.specs.declared.unit.TypedEvent.{TypedEvent}
 use Rattle.typed_program.specs.declared.unit.TypedField.{TypedField}
 use Rattle.typed_program.specs.declared.unit.TypedMethod.{TypedMethod}
+use Rattle.typed_program.specs.declared.unit.TypedTrigger.{TypedTrigger}
 use Rattle.request_states.specs.Runs.{Setting, first_state}
 use Rattle.request_states.specs.States.{State, charge}
 use Rattle.apex_meaning.specs.Bodies as B
 use Rattle.apex_meaning.specs.Bodies.{rounds, enough, body_runs}
 use Rattle.apex_meaning.specs.Classes
-use Rattle.apex_meaning.specs.Classes.{code_of, constructor_at, field_place, fields_at, no_starts, starts}
-use Rattle.apex_meaning.specs.Meanings.{Again, Body, Method, Constructor as Written, Fields, Statics, Do, Run, all_do, all_of, in_here, returned, turn}
+use Rattle.apex_meaning.specs.Classes.{code_of, constructor_at, field_place, fields_at, no_starts, starts, trigger_at}
+use Rattle.apex_meaning.specs.Meanings.{Again, Body, Method, Constructor as Written, Fields, Statics, Trigger, Do, Run, all_do, all_of, in_here, returned, turn}
 use Rattle.apex_meaning.specs.Places.{set_field}
 use Rattle.apex_meaning.specs.Preparing.{constructed, set_message, with_statics}
 use Rattle.apex_meaning.specs.Runs.{run_of, names_of, block_does, block_run}
@@ -70,6 +72,12 @@ pub record ClassOf : Type 0 where
   pub methods : List MethodOf
   pub constructors : List ConstructorOf
 
+pub record TriggerOf : Type 0 where
+  pub name : List ℕ
+  pub object : ℕ
+  pub events : List TypedEvent
+  pub body : List StmtOf
+
 -- ---- their trees
 
 abbrev pub opt : {A B : Type 0} → (A → B) → Option A → Option B
@@ -104,6 +112,10 @@ class_tree c = record {
   constructors = map constructor_tree c.constructors;
 }
 
+-- its name is written in small letters
+abbrev pub trigger_tree : TriggerOf → TypedTrigger
+trigger_tree t = record { name = t.name; folded = t.name; object = t.object; events = t.events; body = stmt_trees t.body }
+
 -- Thing__c with a number, and RowShare
 unfoldable pub sample_objects : List Object
 sample_objects =
@@ -119,10 +131,10 @@ sample_objects =
     }
     ∷ record { name = codes "RowShare"; prefix = codes "00r"; default = Edit; heads = []; rules = []; fields = [] } ∷ []
 
-abbrev pub setting : List ClassOf → Setting
-setting classes = record {
+abbrev pub setting : List TriggerOf → List ClassOf → Setting
+setting triggers classes = record {
   schema = record { roles = []; users = record { name = codes "ann"; role = None } ∷ []; objects = sample_objects };
-  program = record { classes = map class_tree classes; triggers = []; blocks = [] };
+  program = record { classes = map class_tree classes; triggers = map trigger_tree triggers; blocks = [] };
   ticket = record { session = 0; index = 0; user = 0; now = pos 0 };
 }
 
@@ -140,6 +152,10 @@ abbrev pub constructors_in : Option ClassOf → List ConstructorOf
 constructors_in None = []
 constructors_in (Some c) = c.constructors
 
+abbrev pub trigger_in : Option TriggerOf → Option (List StmtOf)
+trigger_in None = None
+trigger_in (Some t) = Some t.body
+
 abbrev pub body_in : Option MethodOf → Option (List StmtOf)
 body_in None = None
 body_in (Some m) = m.body
@@ -149,9 +165,9 @@ got f [] i = refl
 got f (x ∷ xs) zero = refl
 got f (x ∷ xs) (suc i) = got f xs i
 
-module _ (classes : List ClassOf) (a : Again) (n : Names) where
+module _ (triggers : List TriggerOf) (classes : List ClassOf) (a : Again) (n : Names) where
   abbrev s : Setting
-  s = setting classes
+  s = setting triggers classes
 
   abbrev pub initial_field : ℕ → ℕ → Bool → Option ExprOf → Do
   initial_field c k false (Some e) st = bind (e.does s a n st) (λ v s1. set_field (field_place s.program c k) s1.here.this v s1)
@@ -196,6 +212,7 @@ module _ (classes : List ClassOf) (a : Again) (n : Names) where
   body_does (Written c k) st = constructs c (slice_get (constructors_in (slice_get classes c)) k) st
   body_does (Fields c) st = initial_fields c 0 (fields_in (slice_get classes c)) st
   body_does (Statics c) st = initial_statics c 0 (fields_in (slice_get classes c)) st
+  body_does (Trigger t) st = method_does (trigger_in (slice_get triggers t)) st
 
   abbrev pub runs : Body → List Value → Value → Run
   runs b args this st = in_here (B.activation s a n b args this st.here) (λ s1. returned (body_does b s1)) st
@@ -256,6 +273,13 @@ module _ (classes : List ClassOf) (a : Again) (n : Names) where
       of_class None e = ap (λ k. Classes.code_or (slice_get (Classes.methods_of k) m)) e
       of_class (Some k) e = ap (λ k. Classes.code_or (slice_get (Classes.methods_of k) m)) e ∙ of_method k.methods (slice_get k.methods m) (got method_tree k.methods m)
 
+  trigger_there : (t : ℕ) → trigger_at s.program t ≡ opt stmt_trees (trigger_in (slice_get triggers t))
+  trigger_there t = of_trigger (slice_get triggers t) (got trigger_tree triggers t)
+    where
+      of_trigger : (o : Option TriggerOf) → slice_get (map trigger_tree triggers) t ≡ opt trigger_tree o → trigger_at s.program t ≡ opt stmt_trees (trigger_in o)
+      of_trigger None e = ap Classes.trigger_or e
+      of_trigger (Some x) e = ap Classes.trigger_or e
+
   constructor_there : (c k : ℕ) → constructor_at s.program c k ≡ opt constructor_tree (slice_get (constructors_in (slice_get classes c)) k)
   constructor_there c k = of_class (slice_get classes c) (got class_tree classes c)
     where
@@ -267,6 +291,7 @@ module _ (classes : List ClassOf) (a : Again) (n : Names) where
   body_is (Method c m) = (λ i. B.method_does s a n (code_there c m i)) ∙ method_is _
   body_is (Written c k) = (λ i. B.constructs s a n c (constructor_there c k i)) ∙ constructs_is c _
   body_is (Fields c) = (λ i. B.initial_fields s a n c 0 (fields_there c i)) ∙ fields_is c 0 (fields_in (slice_get classes c))
+  body_is (Trigger t) = (λ i. B.method_does s a n (trigger_there t i)) ∙ method_is _
   body_is (Statics c) = (λ i. B.initial_statics s a n c 0 (fields_there c i)) ∙ statics_is c 0 (fields_in (slice_get classes c))
 
   runs_is : body_runs s a n ≡ runs
@@ -274,25 +299,25 @@ module _ (classes : List ClassOf) (a : Again) (n : Names) where
 
 -- ---- rounds, and whole runs
 
-module _ (classes : List ClassOf) (n : Names) where
+module _ (triggers : List TriggerOf) (classes : List ClassOf) (n : Names) where
   -- so many rounds, and then others
   abbrev pub goes : ℕ → Again → Again
   goes zero rest = rest
-  goes (suc k) rest = record { body = runs classes (goes k rest) n; loop = turn (goes k rest) }
+  goes (suc k) rest = record { body = runs triggers classes (goes k rest) n; loop = turn (goes k rest) }
 
-  one_is : (a b : Again) → a ≡ b → ◌≡◌ {A = Again} (record { body = body_runs (setting classes) a n; loop = turn a }) (record { body = runs classes b n; loop = turn b })
+  one_is : (a b : Again) → a ≡ b → ◌≡◌ {A = Again} (record { body = body_runs (setting triggers classes) a n; loop = turn a }) (record { body = runs triggers classes b n; loop = turn b })
   one_is a b e = first ∙ second
     where
-      first : ◌≡◌ {A = Again} (record { body = body_runs (setting classes) a n; loop = turn a }) (record { body = body_runs (setting classes) b n; loop = turn b })
-      first = λ i. record { body = body_runs (setting classes) (e i) n; loop = turn (e i) }
+      first : ◌≡◌ {A = Again} (record { body = body_runs (setting triggers classes) a n; loop = turn a }) (record { body = body_runs (setting triggers classes) b n; loop = turn b })
+      first = λ i. record { body = body_runs (setting triggers classes) (e i) n; loop = turn (e i) }
 
-      second : ◌≡◌ {A = Again} (record { body = body_runs (setting classes) b n; loop = turn b }) (record { body = runs classes b n; loop = turn b })
-      second = λ i. record { body = runs_is classes b n i; loop = turn b }
+      second : ◌≡◌ {A = Again} (record { body = body_runs (setting triggers classes) b n; loop = turn b }) (record { body = runs triggers classes b n; loop = turn b })
+      second = λ i. record { body = runs_is triggers classes b n i; loop = turn b }
 
-  rounds_is : (k m t : ℕ) → t ≡ k + m → rounds (setting classes) n t ≡ goes k (rounds (setting classes) n m)
-  rounds_is zero m t e = let same : t ≡ m = omega arith in ap (rounds (setting classes) n) same
+  rounds_is : (k m t : ℕ) → t ≡ k + m → rounds (setting triggers classes) n t ≡ goes k (rounds (setting triggers classes) n m)
+  rounds_is zero m t e = let same : t ≡ m = omega arith in ap (rounds (setting triggers classes) n) same
   rounds_is (suc k) m zero e = absurd (omega arith)
-  rounds_is (suc k) m (suc t) e = one_is (rounds (setting classes) n t) (goes k (rounds (setting classes) n m)) (rounds_is k m t (omega arith))
+  rounds_is (suc k) m (suc t) e = one_is (rounds (setting triggers classes) n t) (goes k (rounds (setting triggers classes) n m)) (rounds_is k m t (omega arith))
 
 -- what is told of a run: its outcome, its steps and its debug lines
 pub data Told : Type 0 where
@@ -303,32 +328,42 @@ abbrev pub told : Trail → Told
 told (Asks q) = Asked
 told (Ends reply writes) = Came reply.outcome reply.counts.steps reply.debug
 
--- a block with these classes
-pub trail : List ClassOf → List StmtOf → Trail
-trail classes block = block_run (setting classes) (stmt_trees block) []
+-- a block with these triggers and classes
+pub trail_of : List TriggerOf → List ClassOf → List StmtOf → Trail
+trail_of triggers classes block = block_run (setting triggers classes) (stmt_trees block) []
 
 -- the same, where it goes round at most so often
+abbrev pub trail_of_within : ℕ → Again → List TriggerOf → List ClassOf → List StmtOf → Trail
+trail_of_within k rest triggers classes block =
+    run_of (setting triggers classes) (all_do (stmt_all (setting triggers classes) (goes triggers classes (names_of (setting triggers classes)) k rest) (names_of (setting triggers classes)) block) (first_state []))
+
+-- with these classes alone
+abbrev pub trail : List ClassOf → List StmtOf → Trail
+trail classes block = trail_of [] classes block
+
 abbrev pub trail_within : ℕ → Again → List ClassOf → List StmtOf → Trail
-trail_within k rest classes block =
-    run_of (setting classes) (all_do (stmt_all (setting classes) (goes classes (names_of (setting classes)) k rest) (names_of (setting classes)) block) (first_state []))
+trail_within k rest classes block = trail_of_within k rest [] classes block
 
 enough_is : (k c : ℕ) → k ≤ 1000000 → (m : ℕ) × (2 * (1000000 + 64000000 + c + 1) ≡ k + m)
 enough_is k c le = (2 * (1000000 + 64000000 + c + 1) - k, omega arith)
 
 -- a block that goes round less often than that comes to what its parts do
-pub trail_in : (k : ℕ) (classes : List ClassOf) (block : List StmtOf) → k ≤ 1000000 → (rest : Again) × (trail classes block ≡ trail_within k rest classes block)
-unfolding trail
-trail_in k classes block le = of_rest (enough_is k (length (map class_tree classes)) le)
+pub trail_of_in : (k : ℕ) (triggers : List TriggerOf) (classes : List ClassOf) (block : List StmtOf) → k ≤ 1000000 → (rest : Again) × (trail_of triggers classes block ≡ trail_of_within k rest triggers classes block)
+unfolding trail_of
+trail_of_in k triggers classes block le = of_rest (enough_is k (length (map class_tree classes)) le)
   where
-    of_rest : (m : ℕ) × (enough (setting classes).program ≡ k + m) → (rest : Again) × (trail classes block ≡ trail_within k rest classes block)
+    of_rest : (m : ℕ) × (enough (setting triggers classes).program ≡ k + m) → (rest : Again) × (trail_of triggers classes block ≡ trail_of_within k rest triggers classes block)
     of_rest p = (
-      rounds (setting classes) (names_of (setting classes)) p.0,
-      (λ i. run_of (setting classes) (does_all (setting classes) (rounds_is classes (names_of (setting classes)) k p.0 (enough (setting classes).program) p.1 i) (names_of (setting classes)) (stmt_trees block) (first_state [])))
-          ∙ (λ i. run_of (setting classes) (all_do (stmt_each (setting classes) (goes classes (names_of (setting classes)) k (rounds (setting classes) (names_of (setting classes)) p.0)) (names_of (setting classes)) block i) (first_state []))),
+      rounds (setting triggers classes) (names_of (setting triggers classes)) p.0,
+      (λ i. run_of (setting triggers classes) (does_all (setting triggers classes) (rounds_is triggers classes (names_of (setting triggers classes)) k p.0 (enough (setting triggers classes).program) p.1 i) (names_of (setting triggers classes)) (stmt_trees block) (first_state [])))
+          ∙ (λ i. run_of (setting triggers classes) (all_do (stmt_each (setting triggers classes) (goes triggers classes (names_of (setting triggers classes)) k (rounds (setting triggers classes) (names_of (setting triggers classes)) p.0)) (names_of (setting triggers classes)) block i) (first_state []))),
     )
 
+pub ends_of : (k : ℕ) (triggers : List TriggerOf) (classes : List ClassOf) (block : List StmtOf) (t : Trail) → k ≤ 1000000 → ((rest : Again) → trail_of_within k rest triggers classes block ≡ t) → trail_of triggers classes block ≡ t
+ends_of k triggers classes block t le h = let c = trail_of_in k triggers classes block le in c.1 ∙ h c.0
+
 pub ends : (k : ℕ) (classes : List ClassOf) (block : List StmtOf) (t : Trail) → k ≤ 1000000 → ((rest : Again) → trail_within k rest classes block ≡ t) → trail classes block ≡ t
-ends k classes block t le h = let c = trail_in k classes block le in c.1 ∙ h c.0
+ends k classes block t le h = ends_of k [] classes block t le h
 
 -- what is told of a block
 abbrev pub run : List ClassOf → List StmtOf → Told
@@ -338,7 +373,7 @@ abbrev pub within : ℕ → Again → List ClassOf → List StmtOf → Told
 within k rest classes block = told (trail_within k rest classes block)
 
 pub comes_in : (k : ℕ) (classes : List ClassOf) (block : List StmtOf) → k ≤ 1000000 → (rest : Again) × (run classes block ≡ within k rest classes block)
-comes_in k classes block le = let c = trail_in k classes block le in (c.0, ap told c.1)
+comes_in k classes block le = let c = trail_of_in k [] classes block le in (c.0, ap told c.1)
 
 pub comes : (k : ℕ) (classes : List ClassOf) (block : List StmtOf) (t : Told) → k ≤ 1000000 → ((rest : Again) → within k rest classes block ≡ t) → run classes block ≡ t
 comes k classes block t le h = let c = comes_in k classes block le in c.1 ∙ h c.0
@@ -361,21 +396,21 @@ abbrev pub charged_start : List Entry → State
 charged_start es = record (first_state []) { world = record ((first_state []).world) { txn = record ((first_state []).world.txn) { charges = es } } }
 
 pub run_behind : List Entry → List ClassOf → List StmtOf → Told
-run_behind es classes block = told (run_of (setting classes) (block_does (setting classes) (stmt_trees block) (charged_start es)))
+run_behind es classes block = told (run_of (setting [] classes) (block_does (setting [] classes) (stmt_trees block) (charged_start es)))
 
 abbrev pub within_behind : ℕ → Again → List Entry → List ClassOf → List StmtOf → Told
 within_behind k rest es classes block =
-    told (run_of (setting classes) (all_do (stmt_all (setting classes) (goes classes (names_of (setting classes)) k rest) (names_of (setting classes)) block) (charged_start es)))
+    told (run_of (setting [] classes) (all_do (stmt_all (setting [] classes) (goes [] classes (names_of (setting [] classes)) k rest) (names_of (setting [] classes)) block) (charged_start es)))
 
 pub comes_behind : (k : ℕ) (es : List Entry) (classes : List ClassOf) (block : List StmtOf) (t : Told) → k ≤ 1000000 → ((rest : Again) → within_behind k rest es classes block ≡ t) → run_behind es classes block ≡ t
 unfolding run_behind
 comes_behind k es classes block t le h = of_rest (enough_is k (length (map class_tree classes)) le)
   where
-    of_rest : (m : ℕ) × (enough (setting classes).program ≡ k + m) → run_behind es classes block ≡ t
+    of_rest : (m : ℕ) × (enough (setting [] classes).program ≡ k + m) → run_behind es classes block ≡ t
     of_rest p =
-        (λ i. told (run_of (setting classes) (does_all (setting classes) (rounds_is classes (names_of (setting classes)) k p.0 (enough (setting classes).program) p.1 i) (names_of (setting classes)) (stmt_trees block) (charged_start es))))
-        ∙ (λ i. told (run_of (setting classes) (all_do (stmt_each (setting classes) (goes classes (names_of (setting classes)) k (rounds (setting classes) (names_of (setting classes)) p.0)) (names_of (setting classes)) block i) (charged_start es))))
-        ∙ h (rounds (setting classes) (names_of (setting classes)) p.0)
+        (λ i. told (run_of (setting [] classes) (does_all (setting [] classes) (rounds_is [] classes (names_of (setting [] classes)) k p.0 (enough (setting [] classes).program) p.1 i) (names_of (setting [] classes)) (stmt_trees block) (charged_start es))))
+        ∙ (λ i. told (run_of (setting [] classes) (all_do (stmt_each (setting [] classes) (goes [] classes (names_of (setting [] classes)) k (rounds (setting [] classes) (names_of (setting [] classes)) p.0)) (names_of (setting [] classes)) block i) (charged_start es))))
+        ∙ h (rounds (setting [] classes) (names_of (setting [] classes)) p.0)
 
 -- ---- in short
 

@@ -15,6 +15,7 @@ use Rattle.typed_program.specs.declared.expr.Conversion.TheVariants.{Same, ToRec
 use Rattle.typed_program.specs.declared.expr.Number.{Number}
 use Rattle.typed_program.specs.declared.expr.Number.TheVariants.{Integer}
 use Rattle.typed_program.specs.declared.expr.StepKind.{StepKind}
+use Rattle.typed_program.specs.declared.expr.TriggerVariable.{TriggerVariable}
 use Rattle.typed_program.specs.declared.expr.TypedOp.{TypedOp}
 use Rattle.typed_program.specs.declared.expr.TypedOp.TheVariants as Op
 use Rattle.typed_program.specs.declared.expr.TypedBind.{TypedBind}
@@ -225,9 +226,9 @@ at_field e c m = record {
 
 abbrev pub at_cell : ExprOf → ℕ → ℕ → PlaceOf
 at_cell e object m = record {
-  tree = roll-TypedPlace (TypedPlace-F.«TypedPlace::Cell» e.tree object m);
-  does = λ s a n. E.place_step s a (TypedPlace-F.«TypedPlace::Cell» (e.does s a n) object m);
-  is = λ s a n. fold-roll-TypedPlace Given Run Run Behind Where Entry Behind (ℕ × Run) (E.bind_step s a n) (E.expr_step s a n) (E.new_step s a) (E.part_step s a) (E.place_step s a) (E.item_step s a n) (E.operand_step s a n) (E.pair_step s a n) (TypedPlace-F.«TypedPlace::Cell» e.tree object m) ∙ (λ i. E.place_step s a (TypedPlace-F.«TypedPlace::Cell» (e.is s a n i) object m));
+  tree = roll-TypedPlace (TypedPlace-F.«TypedPlace::Cell» e.tree object m false);
+  does = λ s a n. E.place_step s a (TypedPlace-F.«TypedPlace::Cell» (e.does s a n) object m false);
+  is = λ s a n. fold-roll-TypedPlace Given Run Run Behind Where Entry Behind (ℕ × Run) (E.bind_step s a n) (E.expr_step s a n) (E.new_step s a) (E.part_step s a) (E.place_step s a) (E.item_step s a n) (E.operand_step s a n) (E.pair_step s a n) (TypedPlace-F.«TypedPlace::Cell» e.tree object m false) ∙ (λ i. E.place_step s a (TypedPlace-F.«TypedPlace::Cell» (e.is s a n i) object m false));
 }
 
 abbrev pub at_item : ExprOf → ExprOf → PlaceOf
@@ -378,6 +379,13 @@ static c m = record {
   tree = roll-TypedExpr (TypedExpr-F.«TypedExpr::Static» c m);
   does = λ s a n. E.expr_step s a n (TypedExpr-F.«TypedExpr::Static» c m);
   is = λ s a n. fold-roll-TypedExpr Given Run Run Behind Where Entry Behind (ℕ × Run) (E.bind_step s a n) (E.expr_step s a n) (E.new_step s a) (E.part_step s a) (E.place_step s a) (E.item_step s a n) (E.operand_step s a n) (E.pair_step s a n) (TypedExpr-F.«TypedExpr::Static» c m) ∙ (λ i. E.expr_step s a n (TypedExpr-F.«TypedExpr::Static» c m));
+}
+
+abbrev pub of_trigger : TriggerVariable → ExprOf
+of_trigger v = record {
+  tree = roll-TypedExpr (TypedExpr-F.TriggerVariable v);
+  does = λ s a n. E.expr_step s a n (TypedExpr-F.TriggerVariable v);
+  is = λ s a n. fold-roll-TypedExpr Given Run Run Behind Where Entry Behind (ℕ × Run) (E.bind_step s a n) (E.expr_step s a n) (E.new_step s a) (E.part_step s a) (E.place_step s a) (E.item_step s a n) (E.operand_step s a n) (E.pair_step s a n) (TypedExpr-F.TriggerVariable v) ∙ (λ i. E.expr_step s a n (TypedExpr-F.TriggerVariable v));
 }
 
 abbrev pub itself : ExprOf

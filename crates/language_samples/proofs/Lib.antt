@@ -9,3 +9,4 @@ pub mod League
 pub mod Queries
 pub mod Binds
 pub mod Under
+pub mod Triggers

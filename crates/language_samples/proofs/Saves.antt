@@ -15,27 +15,27 @@ use Rattle.language_samples.proofs.Stmts.{StmtOf, does, has, declare, insert, up
 use Rattle.language_samples.proofs.Classes.{sample_objects, trail, ends}
 
 -- no query, no line: so many statements that saved, records of them, and steps
-abbrev came : Outcome → ℕ → ℕ → ℕ → List Row → Trail
+abbrev pub came : Outcome → ℕ → ℕ → ℕ → List Row → Trail
 came outcome dml saved steps puts =
     Ends (record { outcome = outcome; debug = []; counts = record { queries = 0; rows = 0; dml = dml; saved = saved; steps = steps }; ops = 0 }) (record { puts = puts; drops = [] })
 
 -- an update whose only record failed
-abbrev failed : List ℕ → Outcome
+abbrev pub failed : List ℕ → Outcome
 failed error = Thrown (codes "DmlException") (codes "Update failed. First exception on row 0; first error: " ++ error)
 
 -- the n-th row that is made, with this Amount__c
 abbrev made_id : ℕ → List ℕ
 made_id n = minted_id (codes "a01") 0 0 n
 
-abbrev thing : ℕ → Cell → Row
+abbrev pub thing : ℕ → Cell → Row
 thing n amount = record { object = 0; id = made_id n; cells = Id (made_id n) ∷ Id (user_id 0) ∷ amount ∷ [] }
 
 -- Thing__c v = new Thing__c();
-abbrev new_thing : StmtOf
+abbrev pub new_thing : StmtOf
 new_thing = has 0 (new_record 0 [])
 
 -- v.Amount__c = 6.0;
-abbrev sets_six : StmtOf
+abbrev pub sets_six : StmtOf
 sets_six = does (assign (at_cell (local 0) 0 2) (constant (Is.Decimal 6000000)))
 
 -- ---- updates

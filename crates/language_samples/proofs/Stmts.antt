@@ -24,6 +24,7 @@ use Rattle.request_states.specs.States.{Res, charge, set_local}
 use Rattle.request_states.specs.Values.{null}
 use Rattle.apex_meaning.specs.Collections.{items_of}
 use Rattle.apex_meaning.specs.Exceptions.{Clause, Kind, catching, caught_by, clause_for, if_takes, kind_of, takes_form, throw as thrown}
+use Rattle.apex_meaning.specs.Firings.{code_of}
 use Rattle.apex_meaning.specs.Meanings.{Again, Do, all_do, dropped, looping, finally, test}
 use Rattle.apex_meaning.specs.Statements as D
 use Rattle.language_samples.proofs.Known.{Names, ExprOf, said}
@@ -128,8 +129,8 @@ has x e = record {
 abbrev pub saves : DmlOp → Saved → ExprOf → StmtOf
 saves op what e = record {
   tree = roll-TypedStmt (TypedStmt-F.Dml op what e.tree);
-  does = λ s a n. behind_step (λ st. bind (e.does s a n st) (λ v s1. save_these (site_of s) (op_of op) (records_of what v s1.world.heap) s1));
-  is = λ s a n. rolls s a n (TypedStmt-F.Dml op what e.tree) ∙ (λ i. behind_step (λ st. bind (e.is s a n i st) (λ v s1. save_these (site_of s) (op_of op) (records_of what v s1.world.heap) s1)));
+  does = λ s a n. behind_step (λ st. bind (e.does s a n st) (λ v s1. save_these (site_of s) (code_of s a) (op_of op) (records_of what v s1.world.heap) s1));
+  is = λ s a n. rolls s a n (TypedStmt-F.Dml op what e.tree) ∙ (λ i. behind_step (λ st. bind (e.is s a n i st) (λ v s1. save_these (site_of s) (code_of s a) (op_of op) (records_of what v s1.world.heap) s1)));
 }
 
 -- one record of an object

@@ -6,7 +6,8 @@ use Rattle.std.proofs.lemmas.Bool.Decides.{eqb_tells}
 use Rattle.request_states.specs.Runs.{stmts_of, stmts_or, block_at}
 use Rattle.type_names.specs.declared.fault.TreeFault.{TreeFault}
 use Rattle.std.specs.Prelude.{Result}
-use Rattle.apex_meaning.specs.Classes.{class_at, chain, linked, chain_within, parent_of, is_a, is_or_names, interfaces_of, sharing_of, fields_at, fields_of, width, instance_fields, most, methods_of, method_at, nearest, nearest_to, target, code_or, code_of, Starts, and_fields, starts, starts_within, implied_of, own_starts, constructors_of, constructor_at}
+use Rattle.apex_meaning.specs.Classes.{class_at, chain, linked, chain_within, parent_of, is_a, is_or_names, interfaces_of, sharing_of, fields_at, fields_of, width, instance_fields, most, methods_of, method_at, nearest, nearest_to, target, code_or, code_of, Starts, and_fields, starts, starts_within, implied_of, own_starts, constructors_of, constructor_at, trigger_or, trigger_at}
+use Rattle.apex_meaning.specs.Firings.{listings}
 use Rattle.apex_meaning.specs.Classes as Source
 use Rattle.stack_code.specs.Calls.{chain_or, fits_or, sharing_or, statics_or, width_or, units_or, starts_or, table_or, row_or, row_of, place_in}
 use Rattle.stack_code.specs.Calls as Calls
@@ -23,6 +24,7 @@ use Rattle.typed_program.specs.declared.stmt.TypedStmt.{TypedStmt}
 use Rattle.typed_program.specs.declared.unit.TypedClass.{TypedClass}
 use Rattle.typed_program.specs.declared.unit.TypedConstructor.{TypedConstructor}
 use Rattle.typed_program.specs.declared.unit.TypedMethod.{TypedMethod}
+use Rattle.typed_program.specs.declared.unit.TypedTrigger.{TypedTrigger}
 
 abbrev pub name_in : TypedClass → List ℕ
 name_in k = k.name
@@ -52,7 +54,10 @@ pub record IsImage (program : Program) (image : Image) : Type 0 where
   pub constructors : (c k : ℕ) → instrs_at image (B.Constructor c k) ≡ constructed_code program c (constructor_at program c k)
   pub fields : (c : ℕ) → instrs_at image (B.Fields c) ≡ fields_code program c 0 (fields_at program c)
   pub static_values : (c : ℕ) → instrs_at image (B.Statics c) ≡ statics_code program c 0 (fields_at program c)
+  pub triggers : (n : ℕ) → instrs_at image (B.Trigger n) ≡ method_code program (trigger_at program n)
   pub blocks : (n : ℕ) → instrs_at image (B.Block n) ≡ block_or program (block_at program n)
+  -- and its triggers fire in the same order
+  pub firings : image.firings ≡ listings program
 
 module _ (program : Program) where
   abbrev pub coded : ℕ → Option TypedClass → Option ClassCode
@@ -180,6 +185,11 @@ module _ (program : Program) where
   static_values_at c None = refl
   static_values_at c (Some k) = refl
 
+  triggers_at : (ts : List TypedTrigger) (n : ℕ) → instrs_of (slice_get (map (λ (t : TypedTrigger). code (block_code program t.body)) ts) n) ≡ method_code program (trigger_or (slice_get ts n))
+  triggers_at [] n = refl
+  triggers_at (t ∷ ts) zero = refl
+  triggers_at (t ∷ ts) (suc n) = triggers_at ts n
+
   block_made : (b : Result (List TypedStmt) TreeFault) → instrs_of (block_of program b) ≡ block_or program (stmts_of b)
   block_made b = by (stmts_of b) where
     by : (o : Option (List TypedStmt)) → instrs_of (option_map (λ (stmts : List TypedStmt). code (block_code program stmts)) o) ≡ block_or program o
@@ -206,5 +216,7 @@ module _ (program : Program) where
     constructors = λ c m. ap (λ o. instrs_of (of_class (λ (k : ClassCode). slice_get k.constructors m) o)) (coded_at c) ∙ constructors_at c m (class_at program c);
     fields = λ c. ap (λ o. instrs_of (of_class (λ (k : ClassCode). Some k.field_values) o)) (coded_at c) ∙ field_values_at c (class_at program c);
     static_values = λ c. ap (λ o. instrs_of (of_class (λ (k : ClassCode). Some k.static_values) o)) (coded_at c) ∙ static_values_at c (class_at program c);
+    triggers = λ n. triggers_at program.triggers n;
     blocks = λ n. blocks_at program.blocks n;
+    firings = refl;
   }

@@ -1,5 +1,5 @@
 -- What variables come to that are read and assigned to.
-use Rattle.std.proofs.Common.{◌≡◌, ℕ, ◌+◌, Bool, false, cond, List, [], ◌∷◌, ◌++◌, length, drop, slice_get, slice_index_or, Option, Some, None, refl, ap, ◌∙◌, subst}
+use Rattle.std.proofs.Common.{◌≡◌, ℕ, ◌+◌, Bool, true, false, cond, List, [], ◌∷◌, ◌++◌, length, drop, slice_get, slice_index_or, Option, Some, None, refl, ap, ◌∙◌, subst}
 use Rattle.request_states.specs.Runs.{Setting, site_of}
 use Rattle.request_states.specs.States.{State, Res, charge, with_heap}
 use Rattle.apex_num.specs.declared.kind.LimitKind.TheVariants.{Alloc}
@@ -10,13 +10,15 @@ use Rattle.apex_meaning.specs.Collections.{on_collection}
 use Rattle.apex_meaning.specs.Expressions.{Where}
 use Rattle.apex_meaning.specs.Meanings.{Again, Run, calc}
 use Rattle.apex_meaning.specs.Operations.{apply}
-use Rattle.apex_meaning.specs.Places.{Target, LocalAt, StaticAt, FieldAt, CellAt, ItemAt, field_in, field_of_thing, set_cell, set_cell_in_thing, set_field, set_in_thing, setting_units, with_cell, load, store, ready, got, assigned, assigned_with, changed}
+use Rattle.apex_meaning.specs.Places.{Target, LocalAt, StaticAt, FieldAt, CellAt, ItemAt, field_in, field_of_thing, set_cell, set_cell_in_thing, set_field, set_in_thing, if_takes_cell, know_cell, setting_units, with_cell, load, store, ready, got, assigned, assigned_with, changed}
 use Rattle.apex_meaning.specs.Records.{cell_in as record_cell}
 use Rattle.save_meaning.proofs.Holding.{bind_bind, bound, weaken}
 use Rattle.save_meaning.specs.Results.{Gives, bind, Holds}
 use Rattle.save_meaning.specs.Sites.{Site}
 use Rattle.save_meaning.specs.declared.run.TxnState.{TxnState}
 use Rattle.tenant_trails.specs.Runs as Trail
+use Rattle.txn_heap.specs.Guards.{guard_of, takes_cell}
+use Rattle.txn_heap.specs.declared.thing.Record.{Record}
 use Rattle.txn_heap.specs.declared.thing.Thing.{Thing}
 use Rattle.txn_heap.specs.declared.thing.Thing.TheVariants as T
 use Rattle.txn_heap.specs.declared.thing.Value.{Value}
@@ -51,7 +53,7 @@ abbrev pub parts_in : Target → List Value
 parts_in (LocalAt x) = []
 parts_in (StaticAt c n) = []
 parts_in (FieldAt v c n) = v ∷ []
-parts_in (CellAt v object field) = v ∷ []
+parts_in (CellAt v object field goes_on) = v ∷ []
 parts_in (ItemAt v w) = v ∷ w ∷ []
 
 abbrev pub ready_of : Target → List Instr
@@ -62,14 +64,14 @@ abbrev pub slot_of : Program → Target → Slot
 slot_of program (LocalAt x) = S.Local x
 slot_of program (StaticAt c n) = S.Static c n
 slot_of program (FieldAt v c n) = S.Field (field_place program c n)
-slot_of program (CellAt v object field) = S.Cell field false
+slot_of program (CellAt v object field goes_on) = S.Cell field goes_on
 slot_of program (ItemAt v w) = S.Item
 
 as_many : (program : Program) (t : Target) → length (parts_in t) ≡ M.parts_of (slot_of program t)
 as_many program (LocalAt x) = refl
 as_many program (StaticAt c n) = refl
 as_many program (FieldAt v c n) = refl
-as_many program (CellAt v object field) = refl
+as_many program (CellAt v object field goes_on) = refl
 as_many program (ItemAt v w) = refl
 
 module _ (setting : Setting) (image : Image) (r : Trail.Run) where
@@ -124,11 +126,16 @@ module _ (setting : Setting) (image : Image) (r : Trail.Run) where
   set_cell_by : (a : Around) (field : ℕ) (v x : Value) (pc : ℕ) (old : List Value) (st : State) (w : TxnState) (go : Config → Next) (c : Config) → Stands a.below st w → Onward site image r a pc old (λ u. go) c (set_cell field v x st) → Sim.Comes site image r (M.cell_stored field v x (config a pc old st w) go) c st.world.txn.tape
   set_cell_by a field (Plain cell) x pc old st w go c b post = post.by pc [] w b
   set_cell_by a field (Object ref) x pc old st w go c b post = by (slice_get st.world.heap ref.place) post where
-    by : (t : Option Thing) → Onward site image r a pc old (λ (u : Unit {0}). go) c (set_cell_in_thing field x ref.place t st) → Sim.Comes site image r (M.set_cell_in_thing field x ref.place t (config a pc old st w) go) c st.world.txn.tape
-    by (Some (T.Record known)) h =
+    taking : (takes : Bool) (known : Record) → Onward site image r a pc old (λ (u : Unit {0}). go) c (if_takes_cell takes (know_cell field x ref.place known) st) →
+        Sim.Comes site image r (M.if_takes_cell takes (config a pc old st w) (M.know_cell field x ref.place known (config a pc old st w) go)) c st.world.txn.tape
+    taking true known h =
         let units = setting_units (slice_index_or known.cells field None) in
         Sim.charge_at site image r a Alloc units st pc old w _ c b
         (bound (λ u s. (z : TxnState) → Stands a.below s z → Sim.Comes site image r (go (config a pc old s z)) c s.world.txn.tape) (Sim.Stopped site image r a) (charge Alloc units st) (λ u s. Gives tt (with_heap (with_cell field x ref.place s.world.heap) s)) h)
+    taking false known h = h.by pc [] w b
+
+    by : (t : Option Thing) → Onward site image r a pc old (λ (u : Unit {0}). go) c (set_cell_in_thing field x ref.place t st) → Sim.Comes site image r (M.set_cell_in_thing field x ref.place t (config a pc old st w) go) c st.world.txn.tape
+    by (Some (T.Record known)) h = taking (takes_cell (guard_of st.world.heap ref.place) field) known h
     by t h = h.by pc [] w b
 
   -- a cell that is read
@@ -143,14 +150,14 @@ module _ (setting : Setting) (image : Image) (r : Trail.Run) where
   loaded_by a (LocalAt x) pc old st w go c b post = post w b
   loaded_by a (StaticAt k n) pc old st w go c b post = post w b
   loaded_by a (FieldAt v k n) pc old st w go c b post = field_by a (field_place program k n) v pc old st w go c b post
-  loaded_by a (CellAt v object field) pc old st w go c b post = given_by a (record_cell setting.schema field false v st.world.heap) pc old st w go c b post
+  loaded_by a (CellAt v object field goes_on) pc old st w go c b post = given_by a (record_cell setting.schema field goes_on v st.world.heap) pc old st w go c b post
   loaded_by a (ItemAt v x) pc old st w go c b post = collection_at site image r a (Which.List L.Get) v (x ∷ []) pc old st w go c b post
 
   stored_by : (a : Around) (t : Target) (x : Value) (pc : ℕ) (old : List Value) (st : State) (w : TxnState) (go : Config → Next) (c : Config) → Stands a.below st w → Onward site image r a pc old (λ u. go) c (store setting t x st) → Sim.Comes site image r (M.stored (slot_of program t) (parts_in t) x (config a pc old st w) go) c st.world.txn.tape
   stored_by a (LocalAt n) x pc old st w go c b post = post w b
   stored_by a (StaticAt k n) x pc old st w go c b post = post w b
   stored_by a (FieldAt v k n) x pc old st w go c b post = set_by a (field_place program k n) v x pc old st w go c b post
-  stored_by a (CellAt v object field) x pc old st w go c b post = set_cell_by a field v x pc old st w go c b post
+  stored_by a (CellAt v object field goes_on) x pc old st w go c b post = set_cell_by a field v x pc old st w go c b post
   stored_by a (ItemAt v y) x pc old st w go c b post =
       collection_at site image r a (Which.List L.Set) v (y ∷ x ∷ []) pc old st w (λ u. go) c b
       (bound (λ u s. (z : TxnState) → Stands a.below s z → Sim.Comes site image r (go (config a pc old s z)) c s.world.txn.tape) (Sim.Stopped site image r a) (on_collection (Which.List L.Set) v (y ∷ x ∷ []) st) (λ u s. Gives tt s) post)
@@ -205,7 +212,7 @@ module _ (setting : Setting) (image : Image) (r : Trail.Run) (is : IsImage setti
   ready_at (LocalAt x) = λ a k temps st post. post
   ready_at (StaticAt c n) = prepared_at setting image r is again follows c
   ready_at (FieldAt v c n) = λ a k temps st post. post
-  ready_at (CellAt v object field) = λ a k temps st post. post
+  ready_at (CellAt v object field goes_on) = λ a k temps st post. post
   ready_at (ItemAt v w) = λ a k temps st post. post
 
   -- the code of a variable, once its parts are there

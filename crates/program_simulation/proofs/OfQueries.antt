@@ -1,8 +1,9 @@
 -- What queries come to.
-use Rattle.std.proofs.Common.{◌≡◌, ℕ, suc, ◌+◌, Bool, true, false, List, [], ◌∷◌, ◌++◌, length, map, drop, Some, refl, sym, ap, ◌∙◌, subst, append_assoc, append-nil}
+use Rattle.std.proofs.Common.{◌≡◌, ℕ, suc, ◌+◌, Bool, true, false, List, [], ◌∷◌, ◌++◌, length, map, drop, Option, Some, None, refl, sym, ap, ◌∙◌, subst, append_assoc, append-nil}
 use Rattle.std.specs.Prelude.{leb}
 use Rattle.apex_num.specs.declared.kind.LimitKind.{LimitKind}
 use Rattle.apex_num.specs.declared.kind.LimitKind.TheVariants.{Queries, Rows, Alloc}
+use Rattle.apex_meaning.specs.Collections.{items_of}
 use Rattle.apex_meaning.specs.Expressions.{Given as GivenRun}
 use Rattle.apex_meaning.specs.Meanings.{all_of}
 use Rattle.apex_meaning.specs.Queries as E
@@ -37,7 +38,7 @@ use Rattle.store_inquiries.specs.Inquiries.{Inquiry, Found as Done, Asked, inqui
 use Rattle.tenant_trails.specs.Runs as Trail
 use Rattle.txn_heap.specs.declared.thing.Value.{Value}
 use Rattle.stack_code.specs.Code.{Given as GivenCode, joined}
-use Rattle.stack_code.specs.Steps.{query_next, querying}
+use Rattle.stack_code.specs.Steps.{query_next, querying, seen_next}
 use Rattle.stack_code.specs.declared.code.Instr.{Instr}
 use Rattle.stack_code.specs.declared.code.Instr.TheVariants as I
 use Rattle.stack_code.specs.declared.image.Image.{Image}
@@ -86,7 +87,7 @@ module _ (site : Site) (image : Image) (r : Trail.Run) where
           Sim.comes_as site image r _ _ _ _ (ap (λ x. querying site.schema shape (Moves.charged_if x kind n w go) (within stage st before)) e) (then (stands_paid a.below st w kind n b) h)
       by false e h =
           Sim.comes_as site image r _ _ _ _ (ap (λ x. querying site.schema shape (Moves.charged_if x kind n w go) (within stage st before)) e)
-          (0, ap Some (ap (λ x. Trail.Ends x no_writes) (same_reply (O.Limit kind (limit_of kind + 1)) [] st w b.alike) ∙ h))
+          (0, ap Some (ap (λ x. Trail.Ends x no_writes) (same_reply (O.Limit kind (limit_of kind + 1)) a.below.saved st w b.alike) ∙ h a.below.saved w b.alike))
 
     -- ---- an inquiry, in a stage that keeps the answers so far
 
@@ -114,10 +115,10 @@ module _ (site : Site) (image : Image) (r : Trail.Run) where
         where
           by : (tape : List Answer) → Holds (λ x s. Holds Came End (inquire keeps (next x) s)) End (Save.answered keeps question tape st) →
               Sim.Comes site image r (querying site.schema shape (Moves.Asks question) (within (stage answers) st w)) (within (stage answers) st w) tape
-          by [] h = (0, ap Some h)
+          by [] h = (0, ap Some (h a.below.saved w b.alike))
           by (x ∷ more) h =
               let s : State = record st { world = record (st.world) { txn = record (st.world.txn) { tape = more } } } in
-              subst (λ y. Sim.Runs site image r (within y s w) more) (sym (takes answers x)) (go x s (record { alike = record { overlay = b.alike.overlay; minted = b.alike.minted; counts = b.alike.counts; eight = b.alike.eight }; calls = b.calls }) h)
+              subst (λ y. Sim.Runs site image r (within y s w) more) (sym (takes answers x)) (go x s (record { alike = record { overlay = b.alike.overlay; minted = b.alike.minted; counts = b.alike.counts; eight = b.alike.eight }; calls = b.calls; firings = b.firings }) h)
 
       -- what the rest of it comes to is what the machine comes to
       inquired : (i : Inquiry A) (answers : List Answer) (st : State) → Rest answers i → Stands a.below st w → Holds Came End (inquire keeps i st) → Runs (stage answers) st w
@@ -140,7 +141,7 @@ module _ (site : Site) (image : Image) (r : Trail.Run) where
       -- its answer is put: a number, or the list of the new records
       ended : (stage : QueryStage) (x : Answered) (st : State) (w : TxnState) → Stands a.below st w → Then (Gives x st) → Moved stage (Moves.Ends x w) st w
       ended stage (Counted n) st w b h = h.by pc w b d
-      ended stage (Listed found) st w b h = h.by pc w (record { alike = b.alike; calls = b.calls }) d
+      ended stage (Listed found) st w b h = h.by pc w (record { alike = b.alike; calls = b.calls; firings = b.firings }) d
 
       abbrev locked : List Found → Inquiry (Unit {0})
       locked found = holding site.ticket (out-Query q).locked found
@@ -213,6 +214,15 @@ module _ (site : Site) (image : Image) (r : Trail.Run) where
       Sim.first site image r a (I.Query q kinds) k (pushed vs temps) st (λ pc w b d.
       taken_comes site image r (length kinds) vs temps (λ xs rest. query_next q (all_bound kinds xs st.world.heap) (config a pc (pushed vs temps) st w) rest) (config a pc (pushed vs temps) st w) st.world.txn.tape e
       (bound_at q (all_bound kinds vs st.world.heap) a k temps (pushed vs temps) st pc w b d post))
+
+  -- a list or a set that is there
+  seen_by : (o : Option (List Value)) (v : Value) (a : Around) (k : List Instr) (temps old : List Value) (st : State) (pc : ℕ) (w : TxnState) → Stands a.below st w → drop (pc + 1) (Sim.code image a) ≡ k → Follow site image r a k temps (E.seen_items o v st) →
+      Sim.Comes site image r (seen_next o v (config a pc old st w) temps) (config a pc old st w) st.world.txn.tape
+  seen_by None v a k temps old st pc w b d post = post.by pc [] w b
+  seen_by (Some vs) v a k temps old st pc w b d post = post.by (pc + 1) w b d
+
+  pub seen_at : Sim.Takes site image r E.seen (I.Seen ∷ [])
+  seen_at a v k temps st post = Sim.first site image r a I.Seen k (v ∷ temps) st (λ pc w b d. seen_by (items_of v st.world.heap) v a k temps (v ∷ temps) st pc w b d post)
 
   -- binds of the same kinds, and one code for each
   abbrev pub AllBind : List GivenRun → List GivenCode → Type 0

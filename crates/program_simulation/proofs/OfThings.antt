@@ -1,7 +1,7 @@
 -- What instructions of things, and calls of built-in methods, come to.
 use Rattle.std.proofs.Common.{◌≡◌, ℕ, zero, suc, pos, ◌+◌, ◌*◌, Bool, true, false, List, [], ◌∷◌, ◌++◌, length, drop, map, slice_get, Option, None, Some, refl, sym, ap, ◌∙◌}
 use Rattle.request_states.specs.Expressions.{all_pairs, make_record}
-use Rattle.request_states.specs.States.{State, Res, charge, make, with_line}
+use Rattle.request_states.specs.States.{State, Res, charge, make, with_line, with_heap}
 use Rattle.request_states.specs.Values.{null}
 use Rattle.apex_num.specs.declared.cell.Cell.{Cell}
 use Rattle.apex_num.specs.declared.cell.Cell.TheVariants as C
@@ -19,7 +19,7 @@ use Rattle.builtin_table.specs.declared.method.PlatformMethod.TheVariants as P
 use Rattle.heap_methods.specs.Making.{map_of, copied}
 use Rattle.heap_methods.specs.Methods.{method, units}
 use Rattle.heap_methods.specs.Outcomes.{Outcome, Done, Answers, Throws, done as things_done, units_of}
-use Rattle.apex_meaning.specs.Builtins.{cell_in, first_of, rest_of, charge_answer, answered, on_cells, message_answered, if_exception, on_exception, on_platform, called_builtin, count}
+use Rattle.apex_meaning.specs.Builtins.{cell_in, first_of, rest_of, charge_answer, answered, on_cells, message_answered, if_exception, on_exception, on_platform, called_builtin, count, if_takes_error, add_message, add_error}
 use Rattle.apex_meaning.specs.Collections.{done, on_collection, make_for, make_filled, make_map, collection, make_outcome, make_copy, message_among, make_exception}
 use Rattle.request_states.specs.Runs.{Setting, site_of}
 use Rattle.apex_meaning.specs.Classes.{name_or}
@@ -37,6 +37,7 @@ use Rattle.save_meaning.specs.Results.{Gives, bind, Holds}
 use Rattle.save_meaning.specs.Sites.{Site}
 use Rattle.save_meaning.specs.declared.run.TxnState.{TxnState}
 use Rattle.tenant_trails.specs.Runs as Trail
+use Rattle.txn_heap.specs.Guards.{guard_of, takes_error, with_error}
 use Rattle.txn_heap.specs.declared.thing.Thing.{Thing}
 use Rattle.txn_heap.specs.declared.thing.Thing.TheVariants as T
 use Rattle.txn_heap.specs.declared.thing.Value.{Value}
@@ -202,6 +203,24 @@ module _ (site : Site) (image : Image) (r : Trail.Run) where
   count_at a x k temps old st pc w b d post =
       Sim.comes_as site image r (M.count_next x (config a pc old st w) temps) (next (config a pc old st w) (Plain (C.Whole (pos (counter x st.world.txn.charges))) ∷ temps)) (config a pc old st w) st.world.txn.tape (ap (λ n. next (config a pc old st w) (Plain (C.Whole (pos n)) ∷ temps)) (b.alike.counts.each x)) (post.by (pc + 1) w b d)
 
+  -- ---- errors of records
+
+  error_if : (takes : Bool) (a : Around) (place : ℕ) (message : List ℕ) (k : List Instr) (temps old : List Value) (st : State) (pc : ℕ) (w : TxnState) → Stands a.below st w → drop (pc + 1) (Sim.code image a) ≡ k →
+      Follow site image r a k temps (if_takes_error takes (λ s. Gives null (with_heap (with_error place message s.world.heap) s)) st) →
+      Comes a pc old st w (M.if_takes_error takes (config a pc old st w) (next (Machine.with_heap (config a pc old st w) (with_error place message st.world.heap)) (null ∷ temps)))
+  error_if true a place message k temps old st pc w b d post = post.by (pc + 1) w b d
+  error_if false a place message k temps old st pc w b d post = post.by pc [] w b
+
+  added_at : (a : Around) (cell : Cell) (place : ℕ) (k : List Instr) (temps old : List Value) (st : State) (pc : ℕ) (w : TxnState) → Stands a.below st w → drop (pc + 1) (Sim.code image a) ≡ k → Follow site image r a k temps (add_message cell place st) →
+      Comes a pc old st w (M.message_added cell place (config a pc old st w) temps)
+  added_at a (C.Text message) place k temps old st pc w b d post = error_if (takes_error (guard_of st.world.heap place)) a place message k temps old st pc w b d post
+  added_at a cell place k temps old st pc w b d post = post.by pc [] w b
+
+  error_at : (a : Around) (v message : Value) (k : List Instr) (temps old : List Value) (st : State) (pc : ℕ) (w : TxnState) → Stands a.below st w → drop (pc + 1) (Sim.code image a) ≡ k → Follow site image r a k temps (add_error v message st) →
+      Comes a pc old st w (M.error_next v message (config a pc old st w) temps)
+  error_at a (Plain cell) message k temps old st pc w b d post = post.by pc [] w b
+  error_at a (Object ref) message k temps old st pc w b d post = added_at a (cell_in message) ref.place k temps old st pc w b d post
+
   -- ---- casts: null is of every class
 
   cast_by : (a : Around) (good fits : Kind → Bool) → ((x : Kind) → good x ≡ fits x) → (v : Value) (k : List Instr) (temps old : List Value) (st : State) (pc : ℕ) (w : TxnState) → Stands a.below st w → drop (pc + 1) (Sim.code image a) ≡ k → Follow site image r a k temps (cast_to fits v st) →
@@ -259,6 +278,7 @@ module _ (setting : Setting) (image : Image) (r : Trail.Run) (is : IsImage setti
   platform_at a P.TypeName vs k temps old st pc w b d post =
       on_exception_at site image r a (λ t. text_made (name_of_kind setting.program (kind_of_thing t))) (λ t. M.text_next (M.name_of_kind image (kind_of_thing t)) (config a pc old st w) temps) (first_of vs) k temps old st pc w b
       (λ t h. named_at a (kind_of_thing t) k temps old st pc w b d h) post
+  platform_at a P.AddError vs k temps old st pc w b d post = error_at site image r a (first_of vs) (first_of (rest_of vs)) k temps old st pc w b d post
   platform_at a P.Queries vs k temps old st pc w b d post = count_at site image r a K.Queries k temps old st pc w b d post
   platform_at a P.QueryRows vs k temps old st pc w b d post = count_at site image r a K.Rows k temps old st pc w b d post
   platform_at a P.DmlStatements vs k temps old st pc w b d post = count_at site image r a K.Dml k temps old st pc w b d post
@@ -267,7 +287,7 @@ module _ (setting : Setting) (image : Image) (r : Trail.Run) (is : IsImage setti
   platform_at a P.LimitQueryRows vs k temps old st pc w b d post = post.by (pc + 1) w b d
   platform_at a P.LimitDmlStatements vs k temps old st pc w b d post = post.by (pc + 1) w b d
   platform_at a P.LimitDmlRows vs k temps old st pc w b d post = post.by (pc + 1) w b d
-  platform_at a m vs k temps old st pc w b d post = (0, ap Some post)
+  platform_at a m vs k temps old st pc w b d post = (0, ap Some (post a.below.saved w b.alike))
 
   on_collection_at : (a : Around) (which : Which) (vs : List Value) (k : List Instr) (temps old : List Value) (st : State) (pc : ℕ) (w : TxnState) → Stands a.below st w → drop (pc + 1) (Sim.code image a) ≡ k → Follow site image r a k temps (on_collection which (first_of vs) (rest_of vs) st) →
       Sim.Comes site image r (M.collection which (first_of vs) (rest_of vs) (config a pc old st w) (λ v d. next d (v ∷ temps))) (config a pc old st w) st.world.txn.tape

@@ -5,7 +5,7 @@ use Rattle.std.proofs.lemmas.List.{length-set}
 use Rattle.activations.specs.declared.abrupt.Abrupt.{Abrupt}
 use Rattle.activations.specs.declared.here.Here.{Here}
 use Rattle.apex_num.specs.declared.kind.LimitKind.{LimitKind}
-use Rattle.apex_num.specs.declared.kind.LimitKind.TheVariants.{Queries, Rows, Dml, Saved as Rows', Steps, Calls}
+use Rattle.apex_num.specs.declared.kind.LimitKind.TheVariants.{Queries, Rows, Dml, Saved as Rows', Steps, Depth, Calls}
 use Rattle.limit_meter.specs.Charges.{Charged, Left as Leaving, charged as charged_in, leaves, limit_of, counter, fits, count_of as count_in, with_count}
 use Rattle.limit_meter.proofs.Counted.{counts_charge, counts_leave}
 use Rattle.apex_rows.specs.declared.query.Answer.{Answer}
@@ -21,7 +21,8 @@ use Rattle.save_meaning.specs.MoveLaws.{Alike}
 use Rattle.save_meaning.proofs.Holding.{bound, weaken}
 use Rattle.row_meaning.specs.Overlays.{Overlay}
 use Rattle.request_states.specs.Refusals.{no_writes, refusal, not_yet}
-use Rattle.request_states.specs.States.{State, charge, keeps, unbuilt}
+use Rattle.request_states.specs.States.{State, charge, keeps, unbuilt, with_heap}
+use Rattle.trigger_things.specs.Lefts.{closed}
 use Rattle.request_states.specs.Runs.{counts_of, ended}
 use Rattle.apex_meaning.specs.Meanings.{Run, Behind, Do, Test}
 use Rattle.stack_code.specs.Code.{unbuilt as unbuilt_code}
@@ -50,11 +51,23 @@ keeping = record { same = λ t s. refl; twice = λ t u s. refl; itself = λ s. r
 abbrev pub world : State → TxnState → WorldOf
 world st w = record { txn = w; heap = st.world.heap; statics = st.world.statics; debug = st.world.debug }
 
--- what stays the same while code of a body runs: the body, what is open in it, and the frames that wait for it
+-- what lies under a frame: the frames that wait for it, and the overlays to which the saves of those that fired go back
+pub record Under : Type 0 where
+  pub frames : List Waiting
+  pub saved : List Overlay
+
+abbrev pub nothing_under : Under
+nothing_under = record { frames = []; saved = [] }
+
+-- one frame more waits
+abbrev pub over : Waiting → Under → Under
+over x u = record { frames = x ∷ u.frames; saved = u.saved }
+
+-- what stays the same while code of a body runs: the body, what is open in it, and what lies under it
 pub record Around : Type 0 where
   pub body : BodyAt
   pub handlers : List Handler
-  pub below : List Waiting
+  pub below : Under
 
 abbrev pub inside : Around → Handler → Around
 inside a h = record { body = a.body; handlers = h ∷ a.handlers; below = a.below }
@@ -63,32 +76,42 @@ abbrev pub frame : Around → ℕ → List Value → Here → Frame
 frame a pc temps here = record { body = a.body; pc = pc; here = here; stack = temps; handlers = a.handlers }
 
 abbrev pub config : Around → ℕ → List Value → State → TxnState → Config
-config a pc temps st w = record { top = frame a pc temps st.here; mode = M.Running; below = a.below; world = world st w }
+config a pc temps st w = record { top = frame a pc temps st.here; mode = M.Running; below = a.below.frames; world = world st w }
 
 -- the instructions of its body
 abbrev pub code : Image → Around → List Instr
 code image a = instrs_at image a.body
 
--- the calls that are open while these frames wait
+-- the calls and the firings that are open while these frames wait
 abbrev pub calls_of : After → ℕ
 calls_of A.Begun = 0
+calls_of (A.Fired f) = 0
 calls_of _ = 1
 
 abbrev pub calls_in : List Waiting → ℕ
 calls_in [] = 0
 calls_in (x ∷ xs) = calls_of x.after + calls_in xs
 
--- the machine's counters are those of the charges, and each call that is open was charged
-pub record StandsFor (below : List Waiting) (t : Save.Txn) (w : TxnState) : Type 0 where
-  pub alike : Alike [] w t
-  pub calls : calls_in below ≤ count_in w.meter Calls
+abbrev pub firings_of : After → ℕ
+firings_of (A.Fired f) = 1
+firings_of _ = 0
 
-abbrev pub Stands : List Waiting → State → TxnState → Type 0
+abbrev pub firings_in : List Waiting → ℕ
+firings_in [] = 0
+firings_in (x ∷ xs) = firings_of x.after + firings_in xs
+
+-- the machine's counters are those of the charges, and each call and firing that is open was charged
+pub record StandsFor (below : Under) (t : Save.Txn) (w : TxnState) : Type 0 where
+  pub alike : Alike below.saved w t
+  pub calls : calls_in below.frames ≤ count_in w.meter Calls
+  pub firings : firings_in below.frames ≤ count_in w.meter Depth
+
+abbrev pub Stands : Under → State → TxnState → Type 0
 Stands below st w = StandsFor below st.world.txn w
 
 -- of another state with the same transaction
-pub stands_as : (below : List Waiting) (st s : State) (w : TxnState) → s.world.txn ≡ st.world.txn → Stands below st w → Stands below s w
-stands_as below st s w e a = record { alike = subst (λ t. Alike [] w t) (sym e) a.alike; calls = a.calls }
+pub stands_as : (below : Under) (st s : State) (w : TxnState) → s.world.txn ≡ st.world.txn → Stands below st w → Stands below s w
+stands_as below st s w e a = record { alike = subst (λ t. Alike below.saved w t) (sym e) a.alike; calls = a.calls; firings = a.firings }
 
 -- both count alike
 pub same_counts : (saved : List Overlay) (t : Save.Txn) (w : TxnState) → Alike saved w t → counts_in w.meter ≡ counts_of t.charges
@@ -112,61 +135,116 @@ paid k n st = record st { world = record (st.world) { txn = record (st.world.txn
 abbrev pub spent : LimitKind → ℕ → TxnState → TxnState
 spent k n w = record w { meter = with_count w.meter k (count_in w.meter k + n) }
 
-pub alike_paid : (st : State) (w : TxnState) (k : LimitKind) (n : ℕ) → Alike [] w st.world.txn → Alike [] (spent k n w) (record (st.world.txn) { charges = Charged k n ∷ st.world.txn.charges })
-alike_paid st w k n a = record {
+pub alike_paid : (saved : List Overlay) (st : State) (w : TxnState) (k : LimitKind) (n : ℕ) → Alike saved w st.world.txn → Alike saved (spent k n w) (record (st.world.txn) { charges = Charged k n ∷ st.world.txn.charges })
+alike_paid saved st w k n a = record {
   overlay = a.overlay;
   minted = a.minted;
   counts = counts_charge st.world.txn.charges w.meter k n a.eight a.counts;
   eight = length-set w.meter _ _ ∙ a.eight;
 }
 
-pub stands_paid : (below : List Waiting) (st : State) (w : TxnState) (k : LimitKind) (n : ℕ) → Stands below st w → Stands below (paid k n st) (spent k n w)
+pub stands_paid : (below : Under) (st : State) (w : TxnState) (k : LimitKind) (n : ℕ) → Stands below st w → Stands below (paid k n st) (spent k n w)
 stands_paid below st w k n a =
-    let b = alike_paid st w k n a.alike in
+    let b = alike_paid below.saved st w k n a.alike in
     let e : count_in w.meter Calls ≡ counter Calls st.world.txn.charges = a.alike.counts.each Calls in
     let f : count_in (spent k n w).meter Calls ≡ counter Calls (Charged k n ∷ st.world.txn.charges) = b.counts.each Calls in
+    let g : count_in w.meter Depth ≡ counter Depth st.world.txn.charges = a.alike.counts.each Depth in
+    let h : count_in (spent k n w).meter Depth ≡ counter Depth (Charged k n ∷ st.world.txn.charges) = b.counts.each Depth in
     let c = a.calls in
-    record { alike = b; calls = omega (arith, e, f, c) }
+    let d = a.firings in
+    record { alike = b; calls = omega (arith, e, f, c); firings = omega (arith, g, h, d) }
+
+-- what is a call is no firing
+no_firing : (x : After) → calls_of x ≡ 1 → firings_of x ≡ 0
+no_firing A.Answered q = refl
+no_firing A.Constructed q = refl
+no_firing A.Begun q = refl
+no_firing (A.Fired f) q = cc
 
 -- one call more is open
-pub stands_called : (below : List Waiting) (x : Waiting) (st : State) (w : TxnState) → calls_of x.after ≡ 1 → Stands below st w → Stands (x ∷ below) (paid Calls 1 st) (spent Calls 1 w)
+pub stands_called : (below : Under) (x : Waiting) (st : State) (w : TxnState) → calls_of x.after ≡ 1 → Stands below st w → Stands (over x below) (paid Calls 1 st) (spent Calls 1 w)
 stands_called below x st w q a =
-    let b = alike_paid st w Calls 1 a.alike in
+    let b = stands_paid below st w Calls 1 a in
     let e : count_in w.meter Calls ≡ counter Calls st.world.txn.charges = a.alike.counts.each Calls in
-    let f : count_in (spent Calls 1 w).meter Calls ≡ counter Calls (Charged Calls 1 ∷ st.world.txn.charges) = b.counts.each Calls in
+    let f : count_in (spent Calls 1 w).meter Calls ≡ counter Calls (Charged Calls 1 ∷ st.world.txn.charges) = b.alike.counts.each Calls in
     let g : leaves Calls st.world.txn.charges ≤ charged_in Calls st.world.txn.charges = a.alike.counts.sound Calls in
     let c = a.calls in
-    record { alike = b; calls = omega (arith, e, f, g, c, q) }
+    let d = b.firings in
+    let o = no_firing x.after q in
+    record { alike = b.alike; calls = omega (arith, e, f, g, c, q); firings = omega (arith, d, o) }
+
+-- one firing more is open
+pub stands_fired : (below : Under) (x : Waiting) (st : State) (w : TxnState) → calls_of x.after ≡ 0 → firings_of x.after ≡ 1 → Stands below st w → Stands (over x below) (paid Depth 1 st) (spent Depth 1 w)
+stands_fired below x st w p q a =
+    let b = stands_paid below st w Depth 1 a in
+    let e : count_in w.meter Depth ≡ counter Depth st.world.txn.charges = a.alike.counts.each Depth in
+    let f : count_in (spent Depth 1 w).meter Depth ≡ counter Depth (Charged Depth 1 ∷ st.world.txn.charges) = b.alike.counts.each Depth in
+    let g : leaves Depth st.world.txn.charges ≤ charged_in Depth st.world.txn.charges = a.alike.counts.sound Depth in
+    let c = a.firings in
+    let d = b.calls in
+    record { alike = b.alike; calls = omega (arith, d, p); firings = omega (arith, e, f, g, c, q) }
 
 -- behind a frame that waited
 abbrev pub closing : After → State → State
 closing A.Begun st = st
+closing (A.Fired f) st = Save.left keeps Depth (with_heap (closed f.count f.first st.world.heap) st)
 closing _ st = Save.left keeps Calls st
 
+abbrev pub fewer_of : LimitKind → TxnState → TxnState
+fewer_of k w = record w { meter = with_count w.meter k (count_in w.meter k - 1) }
+
 abbrev pub fewer : TxnState → TxnState
-fewer w = record w { meter = with_count w.meter Calls (count_in w.meter Calls - 1) }
+fewer w = fewer_of Calls w
+
+alike_left : (saved : List Overlay) (st : State) (w : TxnState) (k : LimitKind) → 0 < count_in w.meter k → Alike saved w st.world.txn → Alike saved (fewer_of k w) (Save.left keeps k st).world.txn
+alike_left saved st w k above a = record {
+  overlay = a.overlay;
+  minted = a.minted;
+  counts = counts_leave st.world.txn.charges w.meter k a.eight above a.counts;
+  eight = length-set w.meter _ _ ∙ a.eight;
+}
 
 -- one call fewer is open
-pub stands_closed : (below : List Waiting) (x : Waiting) (st : State) (w : TxnState) → calls_of x.after ≡ 1 → Stands (x ∷ below) st w → Stands below (Save.left keeps Calls st) (fewer w)
+pub stands_closed : (below : Under) (x : Waiting) (st : State) (w : TxnState) → calls_of x.after ≡ 1 → Stands (over x below) st w → Stands below (Save.left keeps Calls st) (fewer w)
 stands_closed below x st w q a =
     let c = a.calls in
     let above : 0 < count_in w.meter Calls = omega (arith, c, q) in
-    let b : Alike [] (fewer w) (Save.left keeps Calls st).world.txn = record {
-      overlay = a.alike.overlay;
-      minted = a.alike.minted;
-      counts = counts_leave st.world.txn.charges w.meter Calls a.alike.eight above a.alike.counts;
-      eight = length-set w.meter _ _ ∙ a.alike.eight;
-    } in
+    let b = alike_left below.saved st w Calls above a.alike in
     let e : count_in w.meter Calls ≡ counter Calls st.world.txn.charges = a.alike.counts.each Calls in
     let f : count_in (fewer w).meter Calls ≡ counter Calls (Leaving Calls ∷ st.world.txn.charges) = b.counts.each Calls in
-    record { alike = b; calls = omega (arith, e, f, c, q) }
+    let g : count_in w.meter Depth ≡ counter Depth st.world.txn.charges = a.alike.counts.each Depth in
+    let h : count_in (fewer w).meter Depth ≡ counter Depth (Leaving Calls ∷ st.world.txn.charges) = b.counts.each Depth in
+    let d = a.firings in
+    record { alike = b; calls = omega (arith, e, f, c, q); firings = omega (arith, g, h, d) }
 
--- initial values are no call
-pub stands_begun : (below : List Waiting) (x : Waiting) (st : State) (w : TxnState) → calls_of x.after ≡ 0 → Stands (x ∷ below) st w → Stands below st w
-stands_begun below x st w q a = let c = a.calls in record { alike = a.alike; calls = omega (arith, c, q) }
+-- one firing fewer is open
+pub stands_over : (below : Under) (x : Waiting) (st : State) (w : TxnState) → calls_of x.after ≡ 0 → firings_of x.after ≡ 1 → Stands (over x below) st w → Stands below (Save.left keeps Depth st) (fewer_of Depth w)
+stands_over below x st w p q a =
+    let d = a.firings in
+    let above : 0 < count_in w.meter Depth = omega (arith, d, q) in
+    let b = alike_left below.saved st w Depth above a.alike in
+    let e : count_in w.meter Depth ≡ counter Depth st.world.txn.charges = a.alike.counts.each Depth in
+    let f : count_in (fewer_of Depth w).meter Depth ≡ counter Depth (Leaving Depth ∷ st.world.txn.charges) = b.counts.each Depth in
+    let g : count_in w.meter Calls ≡ counter Calls st.world.txn.charges = a.alike.counts.each Calls in
+    let h : count_in (fewer_of Depth w).meter Calls ≡ counter Calls (Leaving Depth ∷ st.world.txn.charges) = b.counts.each Calls in
+    let c = a.calls in
+    record { alike = b; calls = omega (arith, g, h, c, p); firings = omega (arith, e, f, d, q) }
 
-pub stands_begins : (below : List Waiting) (x : Waiting) (st : State) (w : TxnState) → calls_of x.after ≡ 0 → Stands below st w → Stands (x ∷ below) st w
-stands_begins below x st w q a = let c = a.calls in record { alike = a.alike; calls = omega (arith, c, q) }
+-- initial values are neither
+pub stands_begun : (below : Under) (x : Waiting) (st : State) (w : TxnState) → x.after ≡ A.Begun → Stands (over x below) st w → Stands below st w
+stands_begun below x st w q a =
+    let c = a.calls in
+    let d = a.firings in
+    let e : calls_of x.after ≡ 0 = ap calls_of q in
+    record { alike = a.alike; calls = omega (arith, c, e); firings = omega (arith, d) }
+
+pub stands_begins : (below : Under) (x : Waiting) (st : State) (w : TxnState) → x.after ≡ A.Begun → Stands below st w → Stands (over x below) st w
+stands_begins below x st w q a =
+    let c = a.calls in
+    let d = a.firings in
+    let e : calls_of x.after ≡ 0 = ap calls_of q in
+    let f : firings_of x.after ≡ 0 = ap firings_of q in
+    record { alike = a.alike; calls = omega (arith, c, e); firings = omega (arith, d, f) }
 
 module _ (site : Site) (image : Image) (r : Trail.Run) where
   -- on this tape the machine comes from here to r
@@ -192,11 +270,15 @@ module _ (site : Site) (image : Image) (r : Trail.Run) where
     pub by : (pc : ℕ) (temps : List Value) (w : TxnState) → Stands a.below st w → Runs (in_mode (config a pc temps st w) (M.Leaving why)) st.world.txn.tape
 
   -- an end that nothing sees
+  abbrev pub Shut : Finish → State → Type 0
+  Shut (Halts k n) st = Trail.Ends (ended (O.Limit k n) st.world) no_writes ≡ r
+  Shut (Needs q) st = Trail.Asks q ≡ r
+  Shut Unfinished st = ⊥
+  Shut Unbuilt st = Trail.Ends (refusal not_yet) no_writes ≡ r
+
+  -- it comes to r, where a machine stands for the state
   abbrev pub Closed : Finish → State → Type 0
-  Closed (Halts k n) st = Trail.Ends (ended (O.Limit k n) st.world) no_writes ≡ r
-  Closed (Needs q) st = Trail.Asks q ≡ r
-  Closed Unfinished st = ⊥
-  Closed Unbuilt st = Trail.Ends (refusal not_yet) no_writes ≡ r
+  Closed f st = (saved : List Overlay) (w : TxnState) → Alike saved w st.world.txn → Shut f st
 
   abbrev pub Stopped : Around → Stop Abrupt → State → Type 0
   Stopped a (Leaves why) st = Left a why st
@@ -221,16 +303,16 @@ module _ (site : Site) (image : Image) (r : Trail.Run) where
   -- ---- charges
 
   -- the meter has room exactly where the list of charges has; `d` is the machine without its world
-  pub charge_then : (below : List Waiting) (k : LimitKind) (n : ℕ) (st : State) (w : TxnState) (d : Config) (go : Config → Next) (c : Config) (tape : List Answer) (ok : Unit {0} → State → Type 0) (end : Stop Abrupt → State → Type 0) →
-      Stands below st w → ((f : Finish) → end (Closes f) st → Closed f st) → Holds ok end (charge k n st) →
+  pub charge_then : {E : Type 0} (below : Under) (k : LimitKind) (n : ℕ) (st : State) (w : TxnState) (d : Config) (go : Config → Next) (c : Config) (tape : List Answer) (ok : Unit {0} → State → Type 0) (end : Stop E → State → Type 0) →
+      Stands below st w → ((f : Finish) → end (Closes f) st → Closed f st) → Holds ok end (Save.charge keeps {E = E} k n st) →
       (Stands below (paid k n st) (spent k n w) → ok tt (paid k n st) → Comes (go (record d { world = world st (spent k n w) })) c tape) →
       Comes (charged k n (record d { world = world st w }) go) c tape
-  charge_then below k n st w d go c tape ok end a close post then = by_test (fits k n st.world.txn.charges) (ap (λ x. leb (x + n) (limit_of k)) (a.alike.counts.each k)) post where
-    by_test : (b : Bool) → leb (count_in w.meter k + n) (limit_of k) ≡ b → Holds ok end (Save.charge_if keeps b k n st) → Comes (charged k n (record d { world = world st w }) go) c tape
+  charge_then {E = E} below k n st w d go c tape ok end a close post then = by_test (fits k n st.world.txn.charges) (ap (λ x. leb (x + n) (limit_of k)) (a.alike.counts.each k)) post where
+    by_test : (b : Bool) → leb (count_in w.meter k + n) (limit_of k) ≡ b → Holds ok end (Save.charge_if keeps {E = E} b k n st) → Comes (charged k n (record d { world = world st w }) go) c tape
     by_test true e h = comes_as _ _ c tape (ap (λ b. charged_if b k n (record d { world = world st w }) go) e) (then (stands_paid below st w k n a) h)
     by_test false e h =
         comes_as _ _ c tape (ap (λ b. charged_if b k n (record d { world = world st w }) go) e)
-        (0, ap Some (ap (λ x. Trail.Ends x no_writes) (same_reply (O.Limit k (limit_of k + 1)) [] st w a.alike) ∙ close (Halts k (limit_of k + 1)) h))
+        (0, ap Some (ap (λ x. Trail.Ends x no_writes) (same_reply (O.Limit k (limit_of k + 1)) below.saved st w a.alike) ∙ close (Halts k (limit_of k + 1)) h below.saved w a.alike))
 
   -- a charge within code, at a place of its body
   pub charge_at : (a : Around) (k : LimitKind) (n : ℕ) (st : State) (pc : ℕ) (temps : List Value) (w : TxnState) (go : Config → Next) (c : Config) → Stands a.below st w →
@@ -284,8 +366,8 @@ module _ (site : Site) (image : Image) (r : Trail.Run) where
   pub does_keeping : (f : Do) (is : List Instr) → Keeps f is → Does f is
   does_keeping f is h a k st post = h a k [] st post
 
-  pub unbuilt_at : (a : Around) (k : List Instr) (temps : List Value) (st : State) → Trail.Ends (refusal not_yet) no_writes ≡ r → At a (I.Unbuilt ∷ k) temps st
-  unbuilt_at a k temps st post = first a I.Unbuilt k temps st (λ pc w b d. (0, ap Some post))
+  pub unbuilt_at : (a : Around) (k : List Instr) (temps : List Value) (st : State) → Closed Unbuilt st → At a (I.Unbuilt ∷ k) temps st
+  unbuilt_at a k temps st post = first a I.Unbuilt k temps st (λ pc w b d. (0, ap Some (post a.below.saved w b.alike)))
 
   pub puts_unbuilt : Puts (λ st. unbuilt st) unbuilt_code
   puts_unbuilt a k temps st post = unbuilt_at a k temps st post

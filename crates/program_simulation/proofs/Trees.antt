@@ -1,7 +1,7 @@
 -- The code of every expression does what the expression means.
 use Rattle.std.proofs.Common.{◌≡◌, ℕ, suc, List, [], ◌∷◌, ◌++◌, length, map, refl, sym, ap, ◌∙◌, subst}
 use Rattle.request_states.specs.Runs.{Setting, site_of}
-use Rattle.request_states.specs.States.{State, unbuilt}
+use Rattle.request_states.specs.States.{State}
 use Rattle.request_states.specs.Values.{is_cell}
 use Rattle.builtin_table.specs.declared.method.Builtin.TheVariants as Which
 use Rattle.builtin_table.specs.declared.method.ListMethod.TheVariants as L
@@ -13,8 +13,9 @@ use Rattle.apex_meaning.specs.Expressions as E
 use Rattle.apex_meaning.specs.Expressions.{Where, Entry, all_entries, cast_to, chosen, parts_of, say}
 use Rattle.apex_meaning.specs.Meanings.{Again, Run, Behind, all_of, calc, test, truth_of}
 use Rattle.apex_meaning.specs.Operations.{operated, chained}
-use Rattle.apex_meaning.specs.Places.{FieldAt, CellAt, ItemAt}
+use Rattle.apex_meaning.specs.Places.{FieldAt, CellAt, ItemAt, field_in}
 use Rattle.apex_meaning.specs.Preparing.{new_instance}
+use Rattle.apex_meaning.specs.Queries.{seen}
 use Rattle.apex_meaning.specs.Records.{only}
 use Rattle.query_records.specs.Shapes.{queried}
 use Rattle.query_records.specs.declared.bind.BindKind.{BindKind}
@@ -23,6 +24,7 @@ use Rattle.save_meaning.proofs.Holding.{bind_bind, bound, weaken}
 use Rattle.save_meaning.specs.Results.{Gives, bind}
 use Rattle.static_types.specs.declared.kind.Primitive.TheVariants as Primitive
 use Rattle.tenant_trails.specs.Runs as Trail
+use Rattle.trigger_things.specs.Things.{place_of}
 use Rattle.txn_heap.specs.declared.thing.Value.{Value}
 use Rattle.typed_program.specs.declared.expr.CollectionKind.TheVariants as Kinds
 use Rattle.typed_program.specs.declared.expr.Conversion.{Conversion}
@@ -315,9 +317,6 @@ module _ (setting : Setting) (image : Image) (r : Trail.Run) (is : IsImage setti
   puts_expr : (z : TypedExpr-F TypedBind TypedExpr TypedNew TypedPart TypedPlace TypedItem TypedOperand TypedPair) (f : Run) (code : Instrs) → ((st : State) → E.expr_step setting again names (runs_expr z) st ≡ f st) → Code.expr_step (codes_expr z) ≡ code → Puts f code → OfExpr (roll-TypedExpr z)
   puts_expr z f code q e h = Sim.puts_same (site_of setting) image r (run_expr (roll-TypedExpr z)) f (code_expr (roll-TypedExpr z)) code (λ st. ap (λ g. g st) (run_rolled_expr z) ∙ q st) (code_rolled_expr z ∙ e) h
 
-  lacks_expr : (z : TypedExpr-F TypedBind TypedExpr TypedNew TypedPart TypedPlace TypedItem TypedOperand TypedPair) → ((st : State) → E.expr_step setting again names (runs_expr z) st ≡ unbuilt st) → Code.expr_step (codes_expr z) ≡ Code.unbuilt → OfExpr (roll-TypedExpr z)
-  lacks_expr z q e = puts_expr z (λ st. unbuilt st) Code.unbuilt q e (Sim.puts_unbuilt (site_of setting) image r)
-
   puts_new : (z : TypedNew-F TypedBind TypedExpr TypedNew TypedPart TypedPlace TypedItem TypedOperand TypedPair) (f : Run) (code : Instrs) → ((st : State) → E.new_step setting again (runs_new z) st ≡ f st) → Code.new_step (codes_new z) ≡ code → Puts f code → OfNew (roll-TypedNew z)
   puts_new z f code q e h = Sim.puts_same (site_of setting) image r (run_new (roll-TypedNew z)) f (code_new (roll-TypedNew z)) code (λ st. ap (λ g. g st) (run_rolled_new z) ∙ q st) (code_rolled_new z ∙ e) h
 
@@ -451,7 +450,9 @@ module _ (setting : Setting) (image : Image) (r : Trail.Run) (is : IsImage setti
   expr_layer (TypedExpr-F.Query q bs) =
       puts_expr (TypedExpr-F.Query q (map (λ x. x.0) bs)) _ _ (λ st. refl) refl
       (OfQueries.query_at (site_of setting) image r (queried q) (map run_bind (map (λ x. x.0) bs)) (map code_bind (map (λ x. x.0) bs)) (all_binds bs))
-  expr_layer (TypedExpr-F.TriggerVariable v) = lacks_expr (TypedExpr-F.TriggerVariable v) (λ st. refl) refl
+  expr_layer (TypedExpr-F.TriggerVariable v) =
+      puts_expr (TypedExpr-F.TriggerVariable v) _ _ (λ st. refl) refl
+      (Sim.puts_then (site_of setting) image r (λ st. Gives st.here.this st) (field_in (place_of v)) (I.This ∷ []) (I.Get (S.Field (place_of v)) ∷ []) (OfValues.this_at (site_of setting) image r) (OfPlaces.field_at setting image r (place_of v)))
 
   new_layer : (y : NewLayer) → OfNew (new_in y)
   new_layer (TypedNew-F.Instance c how es) =
@@ -513,9 +514,9 @@ module _ (setting : Setting) (image : Image) (r : Trail.Run) (is : IsImage setti
   place_layer (TypedPlace-F.«TypedPlace::Field» p c n) =
       is_place (TypedPlace-F.«TypedPlace::Field» p.0 c n) (λ a k temps st post. p.1 a k temps st
       (weaken _ _ (Sim.Stopped (site_of setting) image r a) (run_expr p.0 st) (λ v s h. h refl refl) (bound _ (Sim.Stopped (site_of setting) image r a) (run_expr p.0 st) (λ v s. Gives (FieldAt v c n) s) post)))
-  place_layer (TypedPlace-F.«TypedPlace::Cell» p o n) =
-      is_place (TypedPlace-F.«TypedPlace::Cell» p.0 o n) (λ a k temps st post. p.1 a k temps st
-      (weaken _ _ (Sim.Stopped (site_of setting) image r a) (run_expr p.0 st) (λ v s h. h refl refl) (bound _ (Sim.Stopped (site_of setting) image r a) (run_expr p.0 st) (λ v s. Gives (CellAt v o n) s) post)))
+  place_layer (TypedPlace-F.«TypedPlace::Cell» p o n g) =
+      is_place (TypedPlace-F.«TypedPlace::Cell» p.0 o n g) (λ a k temps st post. p.1 a k temps st
+      (weaken _ _ (Sim.Stopped (site_of setting) image r a) (run_expr p.0 st) (λ v s h. h refl refl) (bound _ (Sim.Stopped (site_of setting) image r a) (run_expr p.0 st) (λ v s. Gives (CellAt v o n g) s) post)))
   place_layer (TypedPlace-F.«TypedPlace::Index» p q) =
       is_place (TypedPlace-F.«TypedPlace::Index» p.0 q.0) (λ a k temps st post.
       Sim.again_at (site_of setting) image r a (code_expr p.0) (code_expr q.0) k temps st
@@ -556,20 +557,21 @@ module _ (setting : Setting) (image : Image) (r : Trail.Run) (is : IsImage setti
     codes = code_rolled_pair z
 
   -- a bind is of one kind in both, and its code puts its value
-  bind_of : (z : TypedBind-F TypedBind TypedExpr TypedNew TypedPart TypedPlace TypedItem TypedOperand TypedPair) (kind : BindKind) (p : SuchExpr) → E.bind_step setting again names (runs_bind z) ≡ (kind, run_expr p.0) → Code.bind_step (codes_bind z) ≡ (kind, code_expr p.0) → OfBind (roll-TypedBind z)
-  bind_of z kind p e h = (
+  bind_of : (z : TypedBind-F TypedBind TypedExpr TypedNew TypedPart TypedPlace TypedItem TypedOperand TypedPair) (kind : BindKind) (f : Run) (is : Instrs) → Puts f is → E.bind_step setting again names (runs_bind z) ≡ (kind, f) → Code.bind_step (codes_bind z) ≡ (kind, is) → OfBind (roll-TypedBind z)
+  bind_of z kind f is puts e h = (
     ap (λ b. b.0) runs ∙ sym (ap (λ b. b.0) codes),
-    Sim.puts_same (site_of setting) image r _ (run_expr p.0) _ (code_expr p.0) (λ st. ap (λ b. b.1 st) runs) (ap (λ b. b.1) codes) p.1,
+    Sim.puts_same (site_of setting) image r _ f _ is (λ st. ap (λ b. b.1 st) runs) (ap (λ b. b.1) codes) puts,
   ) where
-    runs : run_bind (roll-TypedBind z) ≡ (kind, run_expr p.0)
+    runs : run_bind (roll-TypedBind z) ≡ (kind, f)
     runs = run_rolled_bind z ∙ e
 
-    codes : code_bind (roll-TypedBind z) ≡ (kind, code_expr p.0)
+    codes : code_bind (roll-TypedBind z) ≡ (kind, is)
     codes = code_rolled_bind z ∙ h
 
   bind_layer : (y : BindLayer) → OfBind (bind_in y)
-  bind_layer (TypedBind-F.One p) = bind_of (TypedBind-F.One p.0) One p refl refl
-  bind_layer (TypedBind-F.Many how p) = bind_of (TypedBind-F.Many how p.0) (Many how) p refl refl
+  bind_layer (TypedBind-F.One p) = bind_of (TypedBind-F.One p.0) One (run_expr p.0) (code_expr p.0) p.1 refl refl
+  bind_layer (TypedBind-F.Many how p) =
+      bind_of (TypedBind-F.Many how p.0) (Many how) (λ st. bind (run_expr p.0 st) seen) (code_expr p.0 ++ I.Seen ∷ []) (Sim.puts_then (site_of setting) image r (run_expr p.0) seen (code_expr p.0) (I.Seen ∷ []) p.1 (OfQueries.seen_at (site_of setting) image r)) refl refl
 
   -- ---- every expression
 

@@ -115,6 +115,7 @@ body_le image (B.Method c m) = let r = methods_le (begun image) c m image.classe
 body_le image (B.Constructor c m) = let r = constructors_le (begun image) c m image.classes in omega arith
 body_le image (B.Fields c) = let r = fields_le (begun image) c image.classes in omega arith
 body_le image (B.Statics c) = let r = statics_le (begun image) c image.classes in omega arith
+body_le image (B.Trigger n) = let r = codes_le (begun image) n image.triggers in omega arith
 
 -- so does a place of it
 pub at_le : (image : Image) (body : BodyAt) (pc : ℕ) → at image (instrs_at image body) pc + 56 ≤ body_most image

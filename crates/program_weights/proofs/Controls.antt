@@ -79,6 +79,7 @@ module _ (image : Image) (checked : IsChecked image) where
   body_fine (B.Constructor c m) = of_class_fine c (λ k. slice_get k.constructors m) (λ k h. codes_fine true k.constructors m h.constructors)
   body_fine (B.Fields c) = of_class_fine c (λ k. Some k.field_values) (λ k h. (false, h.field_values))
   body_fine (B.Statics c) = of_class_fine c (λ k. Some k.static_values) (λ k h. (false, h.static_values))
+  body_fine (B.Trigger n) = codes_fine false image.triggers n checked.triggers
 
   -- an instruction of a body is fine where it stands
   pub fine_at : (body : BodyAt) (pc : ℕ) (i : Instr) → slice_get (instrs_at image body) pc ≡ Some i → (b : Bool) × FineAt b (instrs_at image body) pc i

@@ -203,6 +203,8 @@ module _ (site : Site) (image : Image) (checked : IsChecked image) (body : BodyA
       V.converted_falls image body pc hs ws L N (goes (I.Children object field goes_on) e refl) (raises (I.Children object field goes_on) e refl) (children_in site.schema object field goes_on v w0.heap) rest here s w0 kept)
   act_falls I.Only e here s =
       V.top_falls image body pc hs ws L N (goes I.Only e refl) (raises I.Only e refl) s _ (λ v rest. V.converted_falls image body pc hs ws L N (goes I.Only e refl) (raises I.Only e refl) (only v w0.heap) rest here s w0 kept)
+  act_falls I.Seen e here s =
+      V.top_falls image body pc hs ws L N (goes I.Seen e refl) (raises I.Seen e refl) s _ (λ v rest. V.seen_falls image body pc hs ws L N (goes I.Seen e refl) (raises I.Seen e refl) (items_of v w0.heap) v rest here s w0 kept)
   act_falls (I.Query q kinds) e here s = query_falls q kinds e (all_bound kinds (taken (length kinds) s []).0 w0.heap) here s (taken (length kinds) s []).1
   act_falls (I.Save op what) e here s =
       V.top_falls image body pc hs ws L N (goes (I.Save op what) e refl) (raises (I.Save op what) e refl) s _ (λ v rest. save_falls op what e (records_of what v w0.heap) here s rest)

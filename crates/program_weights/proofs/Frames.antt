@@ -27,7 +27,7 @@ use Rattle.stack_code.specs.declared.state.Mode.TheVariants as M
 use Rattle.stack_code.specs.declared.state.Waiting.{Waiting}
 use Rattle.stack_code.specs.declared.state.World.{World}
 use Rattle.program_weights.specs.Keeps.{AreOpen, AreWaiting, Falls, Stands}
-use Rattle.program_weights.specs.Weights.{begun, body_most, fields_full, frame_load, left, round, waiting_load}
+use Rattle.program_weights.specs.Weights.{after_load, begun, body_most, fields_full, frame_load, left, round, waiting_load}
 use Rattle.program_weights.proofs.Codes.{at_le, field_values_le, later}
 use Rattle.program_weights.proofs.Lefts.{charged_left, charged_paid, charging, marked_first, marked_further, step_left, unready_fewer}
 
@@ -38,6 +38,13 @@ run top ws w = record { top = top; mode = M.Running; below = ws; world = w }
 -- what frames may do
 abbrev pub frames_load : Image → Frame → List Waiting → ℕ
 frames_load image top ws = frame_load image top + waiting_load image ws
+
+-- what waits for a frame weighs no more than one for that
+pub after_small : (after : After) → after_load after ≤ 1
+after_small A.Answered = omega arith
+after_small A.Constructed = omega arith
+after_small A.Begun = omega arith
+after_small (A.Fired f) = omega arith
 
 -- a round is paid for by each thing less that is left
 pub once : (l m r : ℕ) → l + 1 ≤ m → l * r + r ≤ m * r
@@ -90,6 +97,7 @@ module _ (image : Image) (checked : IsChecked image) where
       entered : (v : World) → IsPaid v.txn → left image v + 1 ≤ left image w → Falls image n (Goes (enter image body args this after caller (run top ws v)))
       entered v q le =
           let r = at_le image body 0 in
+          let t = after_small after in
           let s = once (left image v) (left image w) (round image) le in
           (stands_there f (record { frame = top; after = after } ∷ ws) v tt (o, a) q, omega arith)
 

@@ -1,18 +1,21 @@
 -- Code that is left takes the weight down: handler by handler, and frame by frame.
-use Rattle.std.proofs.Common.{◌≡◌, ℕ, ◌+◌, ◌*◌, ◌≤◌, List, [], ◌∷◌, Option, Some, None, refl, ap, arith}
+use Rattle.std.proofs.Common.{◌≡◌, ℕ, ◌+◌, ◌-◌, ◌*◌, ◌≤◌, List, [], ◌∷◌, Option, Some, None, refl, ap, arith}
 use Rattle.std.specs.Prelude.{slice_get}
 use Rattle.activations.specs.declared.abrupt.Abrupt.{Abrupt}
 use Rattle.activations.specs.declared.abrupt.Abrupt.TheVariants.{Throws, Returns, Breaks, Continues}
 use Rattle.activations.specs.declared.abrupt.Raised.{Raised}
 use Rattle.activations.specs.declared.abrupt.Raised.TheVariants.{Platform, Made}
 use Rattle.activations.specs.declared.here.Here.{Here}
+use Rattle.apex_num.specs.declared.kind.LimitKind.TheVariants.{Calls, Depth}
 use Rattle.apex_meaning.specs.Exceptions.{kind_of}
+use Rattle.limit_meter.specs.Charges.{count_of}
 use Rattle.save_meaning.specs.Sites.{Site}
 use Rattle.save_measures.specs.Paid.{IsPaid}
+use Rattle.trigger_things.specs.Lefts.{closed as closed_records}
 use Rattle.txn_heap.specs.declared.thing.Value.{Value}
 use Rattle.stack_code.specs.Checked.{IsChecked}
 use Rattle.stack_code.specs.Machine.{Goes, closed, instrs_at}
-use Rattle.stack_code.specs.Steps.{caught, caught_at, caught_by, clause_for, leaving, left_by, met}
+use Rattle.stack_code.specs.Steps.{caught, caught_at, caught_by, clause_for, handed, leaving, left_by, left_to, met}
 use Rattle.stack_code.specs.declared.code.Instr.{Instr}
 use Rattle.stack_code.specs.declared.code.Instr.TheVariants as I
 use Rattle.stack_code.specs.declared.image.Clause.{Clause}
@@ -21,6 +24,7 @@ use Rattle.stack_code.specs.declared.state.After.{After}
 use Rattle.stack_code.specs.declared.state.After.TheVariants as A
 use Rattle.stack_code.specs.declared.state.BodyAt.{BodyAt}
 use Rattle.stack_code.specs.declared.state.Config.{Config}
+use Rattle.stack_code.specs.declared.state.Firing.{Firing}
 use Rattle.stack_code.specs.declared.state.Frame.{Frame}
 use Rattle.stack_code.specs.declared.state.Handler.{Handler}
 use Rattle.stack_code.specs.declared.state.Handler.TheVariants as H
@@ -30,7 +34,7 @@ use Rattle.stack_code.specs.declared.state.World.{World}
 use Rattle.program_weights.specs.Keeps.{AreOpen, AreWaiting, Falls}
 use Rattle.program_weights.specs.Weights.{at, begun, handler_load, handlers_load, left, round, waiting_load}
 use Rattle.program_weights.proofs.Codes.{charges_zero, later}
-use Rattle.program_weights.proofs.Lefts.{calls_left, calls_paid, with_calls}
+use Rattle.program_weights.proofs.Lefts.{counter_left, counter_paid, leaves_calls, leaves_depth, with_counter}
 use Rattle.program_weights.proofs.Places.{leaves}
 use Rattle.program_weights.proofs.Values.{running}
 
@@ -92,6 +96,10 @@ module _ (site : Site) (image : Image) (checked : IsChecked image) (body : BodyA
 
 -- ---- frames
 
+abbrev IsNoFiring : After → Type 0
+IsNoFiring (A.Fired x) = ⊥
+IsNoFiring _ = Unit {0}
+
 module _ (site : Site) (image : Image) (checked : IsChecked image) where
   -- code of the frame that waits is left too
   thrown_on : (f : Frame) (then : After) (ws : List Waiting) → AreOpen (instrs_at image f.body) f.handlers → AreWaiting image ws → (r : Raised) (w v : World) → IsPaid v.txn → left image v ≡ left image w →
@@ -105,27 +113,55 @@ module _ (site : Site) (image : Image) (checked : IsChecked image) where
   given_on f then ws o a s w v p e =
       let x : left image v * round image ≡ left image w * round image = ap (λ l. l * round image) e in (record { checked = checked; top = o; below = a; paid = p }, omega arith)
 
-  thrown_by : (then : After) (f : Frame) (ws : List Waiting) → AreOpen (instrs_at image f.body) f.handlers → AreWaiting image ws → (r : Raised) (c : Config) → IsPaid c.world.txn →
-      Falls image (left image c.world * round image + ((0 + 1) + waiting_load image (record { frame = f; after = then } ∷ ws))) (Goes (record (closed then c) { top = f; below = ws; mode = M.Leaving (Throws r) }))
-  thrown_by A.Begun f ws o a r c p = thrown_on f A.Begun ws o a r c.world c.world p refl
-  thrown_by A.Answered f ws o a r c p = thrown_on f A.Answered ws o a r c.world (with_calls _ c.world) (calls_paid _ c.world p) (calls_left image _ c.world)
-  thrown_by A.Constructed f ws o a r c p = thrown_on f A.Constructed ws o a r c.world (with_calls _ c.world) (calls_paid _ c.world p) (calls_left image _ c.world)
+  -- a save goes on behind its trigger
+  handed_on : (x : Firing) (f : Frame) (ws : List Waiting) → AreOpen (instrs_at image f.body) f.handlers → AreWaiting image ws → (why : Abrupt) (c : Config) → IsPaid c.world.txn →
+      Falls image (left image c.world * round image + ((0 + 1) + waiting_load image (record { frame = f; after = A.Fired x } ∷ ws))) (Goes (handed site image x why (record { frame = f; after = A.Fired x }) ws c))
+  handed_on x f ws o a why c p =
+      let v : World = record (c.world) { heap = closed_records x.count x.first c.world.heap } in
+      let e = counter_left image Depth leaves_depth (count_of v.txn.meter Depth - 1) v in
+      let y : left image (with_counter Depth (count_of v.txn.meter Depth - 1) v) * round image ≡ left image c.world * round image = ap (λ l. l * round image) e in
+      (record { checked = checked; top = o; below = a; paid = counter_paid Depth leaves_depth (count_of v.txn.meter Depth - 1) v p }, omega arith)
 
-  given_by : (then : After) (f : Frame) (ws : List Waiting) → AreOpen (instrs_at image f.body) f.handlers → AreWaiting image ws → (s : List Value) (c : Config) → IsPaid c.world.txn →
+  -- a frame that runs no trigger is left to the one that waits
+  thrown_by : (then : After) → IsNoFiring then → (f : Frame) (ws : List Waiting) → AreOpen (instrs_at image f.body) f.handlers → AreWaiting image ws → (r : Raised) (c : Config) → IsPaid c.world.txn →
+      Falls image (left image c.world * round image + ((0 + 1) + waiting_load image (record { frame = f; after = then } ∷ ws))) (Goes (record (closed then c) { top = f; below = ws; mode = M.Leaving (Throws r) }))
+  thrown_by A.Begun calls f ws o a r c p = thrown_on f A.Begun ws o a r c.world c.world p refl
+  thrown_by A.Answered calls f ws o a r c p = thrown_on f A.Answered ws o a r c.world (with_counter Calls _ c.world) (counter_paid Calls leaves_calls _ c.world p) (counter_left image Calls leaves_calls _ c.world)
+  thrown_by A.Constructed calls f ws o a r c p = thrown_on f A.Constructed ws o a r c.world (with_counter Calls _ c.world) (counter_paid Calls leaves_calls _ c.world p) (counter_left image Calls leaves_calls _ c.world)
+  thrown_by (A.Fired x) calls f ws o a r c p = absurd calls
+
+  given_by : (then : After) → IsNoFiring then → (f : Frame) (ws : List Waiting) → AreOpen (instrs_at image f.body) f.handlers → AreWaiting image ws → (s : List Value) (c : Config) → IsPaid c.world.txn →
       Falls image (left image c.world * round image + ((0 + 1) + waiting_load image (record { frame = f; after = then } ∷ ws))) (Goes (record (closed then c) { top = record f { stack = s }; below = ws; mode = M.Running }))
-  given_by A.Begun f ws o a s c p = given_on f A.Begun ws o a s c.world c.world p refl
-  given_by A.Answered f ws o a s c p = given_on f A.Answered ws o a s c.world (with_calls _ c.world) (calls_paid _ c.world p) (calls_left image _ c.world)
-  given_by A.Constructed f ws o a s c p = given_on f A.Constructed ws o a s c.world (with_calls _ c.world) (calls_paid _ c.world p) (calls_left image _ c.world)
+  given_by A.Begun calls f ws o a s c p = given_on f A.Begun ws o a s c.world c.world p refl
+  given_by A.Answered calls f ws o a s c p = given_on f A.Answered ws o a s c.world (with_counter Calls _ c.world) (counter_paid Calls leaves_calls _ c.world p) (counter_left image Calls leaves_calls _ c.world)
+  given_by A.Constructed calls f ws o a s c p = given_on f A.Constructed ws o a s c.world (with_counter Calls _ c.world) (counter_paid Calls leaves_calls _ c.world p) (counter_left image Calls leaves_calls _ c.world)
+  given_by (A.Fired x) calls f ws o a s c p = absurd calls
+
+  to_falls : (then : After) (f : Frame) (ws : List Waiting) → AreOpen (instrs_at image f.body) f.handlers → AreWaiting image ws → (why : Abrupt) (c : Config) → IsPaid c.world.txn →
+      Falls image (left image c.world * round image + ((0 + 1) + waiting_load image (record { frame = f; after = then } ∷ ws))) (left_to site image then why (record { frame = f; after = then }) ws c)
+  to_falls A.Answered f ws o a (Throws r) c p = thrown_by A.Answered tt f ws o a r c p
+  to_falls A.Answered f ws o a (Returns v) c p = given_by A.Answered tt f ws o a _ c p
+  to_falls A.Answered f ws o a Breaks c p = given_by A.Answered tt f ws o a _ c p
+  to_falls A.Answered f ws o a Continues c p = given_by A.Answered tt f ws o a _ c p
+  to_falls A.Constructed f ws o a (Throws r) c p = thrown_by A.Constructed tt f ws o a r c p
+  to_falls A.Constructed f ws o a (Returns v) c p = given_by A.Constructed tt f ws o a _ c p
+  to_falls A.Constructed f ws o a Breaks c p = given_by A.Constructed tt f ws o a _ c p
+  to_falls A.Constructed f ws o a Continues c p = given_by A.Constructed tt f ws o a _ c p
+  to_falls A.Begun f ws o a (Throws r) c p = thrown_by A.Begun tt f ws o a r c p
+  to_falls A.Begun f ws o a (Returns v) c p = given_by A.Begun tt f ws o a _ c p
+  to_falls A.Begun f ws o a Breaks c p = given_by A.Begun tt f ws o a _ c p
+  to_falls A.Begun f ws o a Continues c p = given_by A.Begun tt f ws o a _ c p
+  to_falls (A.Fired x) f ws o a why c p = handed_on x f ws o a why c p
 
   left_falls : (why : Abrupt) (below : List Waiting) → AreWaiting image below → (c : Config) → IsPaid c.world.txn → Falls image (left image c.world * round image + ((0 + 1) + waiting_load image below)) (left_by site image why below c)
   left_falls (Throws r) [] a c p = tt
   left_falls (Returns v) [] a c p = tt
   left_falls Breaks [] a c p = tt
   left_falls Continues [] a c p = tt
-  left_falls (Throws r) (x ∷ ws) a c p = thrown_by x.after x.frame ws a.0 a.1 r c p
-  left_falls (Returns v) (x ∷ ws) a c p = given_by x.after x.frame ws a.0 a.1 _ c p
-  left_falls Breaks (x ∷ ws) a c p = given_by x.after x.frame ws a.0 a.1 _ c p
-  left_falls Continues (x ∷ ws) a c p = given_by x.after x.frame ws a.0 a.1 _ c p
+  left_falls (Throws r) (x ∷ ws) a c p = to_falls x.after x.frame ws a.0 a.1 (Throws r) c p
+  left_falls (Returns v) (x ∷ ws) a c p = to_falls x.after x.frame ws a.0 a.1 (Returns v) c p
+  left_falls Breaks (x ∷ ws) a c p = to_falls x.after x.frame ws a.0 a.1 Breaks c p
+  left_falls Continues (x ∷ ws) a c p = to_falls x.after x.frame ws a.0 a.1 Continues c p
 
   -- code that is left
   pub leaving_falls : (why : Abrupt) (hs : List Handler) (body : BodyAt) (pc : ℕ) (ws : List Waiting) (here : Here) (s : List Value) (w : World) → AreOpen (instrs_at image body) hs → AreWaiting image ws → IsPaid w.txn →

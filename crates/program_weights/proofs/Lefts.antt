@@ -55,17 +55,28 @@ place_small Steps = omega arith
 place_small Alloc = omega arith
 place_small Calls = omega arith
 
--- with another counter of calls
-pub calls_other : (m : List ℕ) (n : ℕ) → (count_of (with_count m Calls n) Steps ≡ count_of m Steps) × (count_of (with_count m Calls n) Alloc ≡ count_of m Alloc)
-calls_other m n = (get_or-set_other m 7 5 n 0 (omega arith), get_or-set_other m 7 6 n 0 (omega arith))
+-- neither steps nor units
+pub record Leavable (k : LimitKind) : Type 0 where
+  pub no_steps : place_of Steps ≢ place_of k
+  pub no_units : place_of Alloc ≢ place_of k
+
+pub leaves_calls : Leavable Calls
+leaves_calls = record { no_steps = omega arith; no_units = omega arith }
+
+pub leaves_depth : Leavable Depth
+leaves_depth = record { no_steps = omega arith; no_units = omega arith }
+
+-- with another counter of such a kind
+pub counter_other : (k : LimitKind) → Leavable k → (m : List ℕ) (n : ℕ) → (count_of (with_count m k n) Steps ≡ count_of m Steps) × (count_of (with_count m k n) Alloc ≡ count_of m Alloc)
+counter_other k l m n = (get_or-set_other m (place_of k) (place_of Steps) n 0 l.no_steps, get_or-set_other m (place_of k) (place_of Alloc) n 0 l.no_units)
 
 -- ---- worlds that charge
 
 abbrev pub charging : LimitKind → ℕ → World → World
 charging k n w = record w { txn = record (w.txn) { meter = with_count w.txn.meter k (count_of w.txn.meter k + n) } }
 
-abbrev pub with_calls : ℕ → World → World
-with_calls n w = record w { txn = record (w.txn) { meter = with_count w.txn.meter Calls n } }
+abbrev pub with_counter : LimitKind → ℕ → World → World
+with_counter k n w = record w { txn = record (w.txn) { meter = with_count w.txn.meter k n } }
 
 pub charged_paid : (k : LimitKind) (n : ℕ) (w : World) → IsPaid w.txn → IsPaid (charging k n w).txn
 charged_paid k n w p =
@@ -98,13 +109,13 @@ alloc_left image n w p fits =
     let g = grows w.txn.meter Alloc Steps n lt in
     let h = counted w.txn.meter Alloc (count_of w.txn.meter Alloc + n) lt in omega arith
 
-pub calls_paid : (n : ℕ) (w : World) → IsPaid w.txn → IsPaid (with_calls n w).txn
-calls_paid n w p =
+pub counter_paid : (k : LimitKind) → Leavable k → (n : ℕ) (w : World) → IsPaid w.txn → IsPaid (with_counter k n w).txn
+counter_paid k l n w p =
     let m = p.minted in
-    let o = calls_other w.txn.meter n in record { eight = length-set w.txn.meter _ _ ∙ p.eight; minted = omega arith }
+    let o = counter_other k l w.txn.meter n in record { eight = length-set w.txn.meter _ _ ∙ p.eight; minted = omega arith }
 
-pub calls_left : (image : Image) (n : ℕ) (w : World) → left image (with_calls n w) ≡ left image w
-calls_left image n w = let o = calls_other w.txn.meter n in omega arith
+pub counter_left : (image : Image) (k : LimitKind) → Leavable k → (n : ℕ) (w : World) → left image (with_counter k n w) ≡ left image w
+counter_left image k l n w = let o = counter_other k l w.txn.meter n in omega arith
 
 -- ---- classes that are prepared
 

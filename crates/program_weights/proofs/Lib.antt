@@ -5,6 +5,7 @@ pub mod Frames
 pub mod Places
 pub mod Controls
 pub mod Leaving
+pub mod Firings
 pub mod Saves
 pub mod Queries
 pub mod Falls

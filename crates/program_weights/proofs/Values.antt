@@ -28,10 +28,11 @@ use Rattle.apex_meaning.specs.Places.{setting_units, with_cell}
 use Rattle.apex_meaning.specs.Records.{cell_in as record_cell}
 use Rattle.limit_meter.specs.Charges.{count_of, limit_of}
 use Rattle.platform_errors.specs.declared.thrown.Thrown.{Thrown}
-use Rattle.platform_errors.specs.declared.thrown.Thrown.TheVariants.{NullObject, Builtin, InvalidConversion}
+use Rattle.platform_errors.specs.declared.thrown.Thrown.TheVariants.{NullObject, NoErrors, ReadOnly, Builtin, InvalidConversion}
 use Rattle.save_meaning.specs.Sites.{Site}
 use Rattle.save_measures.specs.Paid.{IsPaid}
 use Rattle.txn_heap.specs.Changes.{changed as things_changed, thing_after}
+use Rattle.txn_heap.specs.Guards.{guard_of, takes_cell, takes_error, with_error}
 use Rattle.txn_heap.specs.Statics.{with_static}
 use Rattle.txn_heap.specs.declared.change.Change.TheVariants as Now
 use Rattle.txn_heap.specs.declared.thing.Thing.{Thing}
@@ -49,8 +50,8 @@ use Rattle.value_operators.specs.Operators.{Calc, applied, joined, stepped}
 use Rattle.value_operators.specs.declared.calculated.Calculated.TheVariants.{Val, Fails}
 use Rattle.value_texts.specs.Texts.{text_of}
 use Rattle.stack_code.specs.Machine.{Next, charged, charged_if, next, on_calc, on_top, on_truth, raise, taken, with_heap, with_line, with_statics}
-use Rattle.stack_code.specs.Steps.{operator_next}
-use Rattle.stack_code.specs.Things.{answered_next, builtin_next, cast_if, cast_next, change_next, cell_loaded, cell_stored, collection, copied_next, done_next, fetch_next, field_loaded, field_of_thing, field_stored, filled_next, get_next, if_exception, loaded, make_for, message_next, on_exception, parts_of, platform_next, print_next, set_cell_in_thing, set_in_thing, set_message, set_next, sized_next, stored, text_next}
+use Rattle.stack_code.specs.Steps.{operator_next, seen_next}
+use Rattle.stack_code.specs.Things.{answered_next, builtin_next, cast_if, cast_next, change_next, cell_loaded, cell_stored, collection, copied_next, done_next, error_next, fetch_next, field_loaded, field_of_thing, field_stored, filled_next, get_next, if_exception, if_takes_cell, if_takes_error, know_cell, loaded, make_for, message_added, message_next, on_exception, parts_of, platform_next, print_next, set_cell_in_thing, set_in_thing, set_message, set_next, sized_next, stored, text_next}
 use Rattle.stack_code.specs.declared.code.Slot.{Slot}
 use Rattle.stack_code.specs.declared.code.Slot.TheVariants as S
 use Rattle.stack_code.specs.declared.image.Image.{Image}
@@ -164,12 +165,34 @@ module _ (image : Image) (body : BodyAt) (pc : ℕ) (hs : List Handler) (ws : Li
   message_falls (C.Text t) stack here s w p = text_falls t stack here s w p
   message_falls cell stack here s w p = go_on here s (Plain cell ∷ stack) w p
 
+  -- ---- errors of records
+
+  takes_error_falls : (b : Bool) (here : Here) (s : List Value) (w : World) (go : Next) → Kept image m w → Falls image N go → Falls image N (if_takes_error b (cfg here s w) go)
+  takes_error_falls true here s w go p h = h
+  takes_error_falls false here s w go p h = raises NoErrors here s w p
+
+  message_added_falls : (cell : Cell) (place : ℕ) (stack : List Value) (here : Here) (s : List Value) (w : World) → Kept image m w → Falls image N (message_added cell place (cfg here s w) stack)
+  message_added_falls (C.Text message) place stack here s w p =
+      takes_error_falls (takes_error (guard_of w.heap place)) here s w (next (with_heap (cfg here s w) (with_error place message w.heap)) (null ∷ stack)) p
+      (go_on here s (null ∷ stack) (record w { heap = with_error place message w.heap }) p)
+  message_added_falls cell place stack here s w p = raises NullObject here s w p
+
+  error_falls : (v message : Value) (stack : List Value) (here : Here) (s : List Value) (w : World) → Kept image m w → Falls image N (error_next v message (cfg here s w) stack)
+  error_falls (Plain cell) message stack here s w p = raises NullObject here s w p
+  error_falls (Object r) message stack here s w p = message_added_falls (cell_in message) r.place stack here s w p
+
+  -- what stands behind IN
+  pub seen_falls : (o : Option (List Value)) (v : Value) (stack : List Value) (here : Here) (s : List Value) (w : World) → Kept image m w → Falls image N (seen_next o v (cfg here s w) stack)
+  seen_falls None v stack here s w p = raises NullObject here s w p
+  seen_falls (Some items) v stack here s w p = go_on here s (v ∷ stack) w p
+
   platform_falls : (ticket : Ticket) (which : PlatformMethod) (vs stack : List Value) (here : Here) (s : List Value) (w : World) → Kept image m w → Falls image N (platform_next ticket image which vs (cfg here s w) stack)
   platform_falls ticket P.Today vs stack here s w p = answered_falls (meaning (B.Moment Date) (C.Moment ticket.now ∷ [])) stack here s w p
   platform_falls ticket P.Now vs stack here s w p = go_on here s _ w p
   platform_falls ticket P.UserId vs stack here s w p = go_on here s _ w p
   platform_falls ticket P.Message vs stack here s w p = on_exception_falls (first_of vs) here s w _ p (λ t. message_falls (message_of_thing t) stack here s w p)
   platform_falls ticket P.TypeName vs stack here s w p = on_exception_falls (first_of vs) here s w _ p (λ t. text_falls _ stack here s w p)
+  platform_falls ticket P.AddError vs stack here s w p = error_falls (first_of vs) (first_of (rest_of vs)) stack here s w p
   platform_falls ticket P.Queries vs stack here s w p = go_on here s _ w p
   platform_falls ticket P.QueryRows vs stack here s w p = go_on here s _ w p
   platform_falls ticket P.DmlStatements vs stack here s w p = go_on here s _ w p
@@ -248,9 +271,14 @@ module _ (image : Image) (body : BodyAt) (pc : ℕ) (hs : List Handler) (ws : Li
   cell_loaded_falls : (schema : Schema) (field : ℕ) (goes_on : Bool) (on : Value) (here : Here) (s : List Value) (w : World) (go : Value → Config → Next) → Kept image m w → ((v : Value) (x : World) → Kept image m x → Falls image N (go v (cfg here s x))) → Falls image N (cell_loaded schema field goes_on on (cfg here s w) go)
   cell_loaded_falls schema field goes_on on here s w go p h = calc_falls (record_cell schema field goes_on on w.heap) here s w (λ v. go v (cfg here s w)) p (λ v. h v w p)
 
+  takes_cell_falls : (b : Bool) (here : Here) (s : List Value) (w : World) (go : Next) → Kept image m w → Falls image N go → Falls image N (if_takes_cell b (cfg here s w) go)
+  takes_cell_falls true here s w go p h = h
+  takes_cell_falls false here s w go p h = raises ReadOnly here s w p
+
   set_cell_falls : (field : ℕ) (v : Value) (at : ℕ) (o : Option Thing) (here : Here) (s : List Value) (w : World) (go : Config → Next) → Kept image m w → ((x : World) → Kept image m x → Falls image N (go (cfg here s x))) → Falls image N (set_cell_in_thing field v at o (cfg here s w) go)
   set_cell_falls field v at (Some (T.Record r)) here s w go p h =
-      charged_falls K.Alloc (setting_units (slice_index_or r.cells field None)) here s w (λ d. go (with_heap d (with_cell field v at d.world.heap))) p (λ x q. h (record x { heap = with_cell field v at x.heap }) q)
+      takes_cell_falls (takes_cell (guard_of w.heap at) field) here s w (know_cell field v at r (cfg here s w) go) p
+      (charged_falls K.Alloc (setting_units (slice_index_or r.cells field None)) here s w (λ d. go (with_heap d (with_cell field v at d.world.heap))) p (λ x q. h (record x { heap = with_cell field v at x.heap }) q))
   set_cell_falls field v at _ here s w go p h = raises NullObject here s w p
 
   cell_stored_falls : (field : ℕ) (on v : Value) (here : Here) (s : List Value) (w : World) (go : Config → Next) → Kept image m w → ((x : World) → Kept image m x → Falls image N (go (cfg here s x))) → Falls image N (cell_stored field on v (cfg here s w) go)

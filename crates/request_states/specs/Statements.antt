@@ -1,5 +1,5 @@
 -- What a statement saves (docs/language.md, "What code does").
-use Rattle.std.specs.Prelude.{ℕ, Bool, true, List, [], ◌∷◌, map, slice_get, Option, None, Some}
+use Rattle.std.specs.Prelude.{ℕ, true, List, [], ◌∷◌, map, slice_get, Option, None, Some}
 use Rattle.apex_num.specs.declared.cell.Cell.{Cell}
 use Rattle.apex_num.specs.declared.cell.Cell.TheVariants.{Id}
 use Rattle.apex_requests.specs.declared.request.Op.{Op}
@@ -9,9 +9,7 @@ use Rattle.apex_syntax.specs.declared.stmt.DmlOp.{DmlOp}
 use Rattle.apex_syntax.specs.declared.stmt.DmlOp.TheVariants as Dml
 use Rattle.platform_errors.specs.declared.thrown.Thrown.TheVariants.{NullObject}
 use Rattle.save_meaning.specs.Sites.{Site}
-use Rattle.save_statements.specs.declared.pending.Act.{Act}
 use Rattle.save_statements.specs.declared.pending.Manner.TheVariants.{ByCode}
-use Rattle.save_statements.specs.declared.firing.Trigger.{Trigger}
 use Rattle.save_statements.specs.declared.statement.RecordOutcome.{RecordOutcome}
 use Rattle.save_statements.specs.declared.statement.RecordOutcome.TheVariants.{Done, Failed}
 use Rattle.save_statements.specs.Phases.{Code}
@@ -24,8 +22,8 @@ use Rattle.txn_heap.specs.declared.thing.Value.{Value}
 use Rattle.txn_heap.specs.declared.thing.Value.TheVariants.{Plain, Object}
 use Rattle.typed_program.specs.declared.stmt.Saved.{Saved}
 use Rattle.typed_program.specs.declared.stmt.Saved.TheVariants.{One, Many}
-use Rattle.save_meaning.specs.Results.{Gives, Stops, Closes, Unbuilt, bind}
-use Rattle.request_states.specs.States.{State, Res, saved, throws, unbuilt, keeps, with_heap}
+use Rattle.save_meaning.specs.Results.{Gives, bind}
+use Rattle.request_states.specs.States.{State, Res, saved, throws, keeps, with_heap}
 
 abbrev pub Do : Type 0
 Do = State → Res (Unit {0})
@@ -76,13 +74,7 @@ name_records [] outcomes heap = heap
 name_records (p ∷ ps) [] heap = heap
 name_records (p ∷ ps) (o ∷ os) heap = name_records ps os (name_record p o heap)
 
--- ---- what code around a save does: there are no triggers and no roll-ups yet
-
-abbrev pub no_triggers : ℕ → Act → Bool → List Trigger
-no_triggers object act before = []
-
-abbrev pub no_code : Code State
-no_code = record { triggers = no_triggers; fire = λ n c st. Stops (Closes Unbuilt) st; roll_up = λ object rs st. Gives rs st }
+-- ---- what is saved
 
 abbrev pub op_of : DmlOp → Op
 op_of Dml.Insert = Op.Insert
@@ -90,11 +82,11 @@ op_of Dml.Update = Op.Update
 op_of Dml.Delete = Op.Delete
 op_of Dml.Upsert = Op.Upsert
 
-module _ (site : Site) where
+module _ (site : Site) (code : Code State) where
   -- all of the records are saved or none, for code in its mode
   abbrev pub save_at : Op → ℕ → List ℕ → Do
   save_at op object ps st =
-      bind (saved (save keeps site no_code op (ByCode st.here.mode) object true (rows_in st.world.heap ps) st)) (λ outcomes s.
+      bind (saved (save keeps site code op (ByCode st.here.mode) object true (rows_in st.world.heap ps) st)) (λ outcomes s.
       Gives tt (with_heap (name_records ps outcomes s.world.heap) s))
 
   -- a null list and a null record throw before anything is charged

@@ -25,11 +25,11 @@ abbrev pub reached : TypedExpr → List TypedPart → TypedExpr
 reached head [] = head
 reached head (part ∷ parts) = Postfix head (part ∷ parts)
 
--- a field of an instance, a cell of a record, and an element of a list may be assigned to; at a cell of a record that is
--- null the store fails, also where the record is what a relation leads to
+-- a field of an instance, a cell of a record, and an element of a list may be assigned to; a cell behind a relation is read
+-- as the path is, null where it leads to no record, and the store fails there
 abbrev pub place_in : TypedExpr → TypedPart-F TypedBind TypedExpr TypedNew TypedPart TypedPlace TypedItem TypedOperand TypedPair → Option TypedPlace
 place_in value (TypedPart-F.«TypedPart::Field» class field) = Some (P.Field value class field)
-place_in value (TypedPart-F.«TypedPart::Cell» object field null_goes_on) = Some (P.Cell value object field)
+place_in value (TypedPart-F.«TypedPart::Cell» object field null_goes_on) = Some (P.Cell value object field null_goes_on)
 place_in value (TypedPart-F.«TypedPart::Index» index) = Some (P.Index value index)
 place_in value _ = None
 

@@ -52,7 +52,9 @@ fn place_in(
 {
     match part {
         TypedPart::Field(class, field) => some(alloc, TypedPlace::Field(value, class, field)),
-        TypedPart::Cell(object, field, _) => some(alloc, TypedPlace::Cell(value, object, field)),
+        TypedPart::Cell(object, field, goes_on) => {
+            some(alloc, TypedPlace::Cell(value, object, field, goes_on))
+        }
         TypedPart::Index(index) => some(alloc, TypedPlace::Index(value, index)),
         _ => Ok(None),
     }

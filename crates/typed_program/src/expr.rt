@@ -190,8 +190,9 @@ pub enum TypedPlace {
     Static(usize, usize),
     /// The field of an instance: the instance, and the class that has the field.
     Field(Boxed<TypedExpr>, usize, usize),
-    /// The cell of a record: the record, its object and the field.
-    Cell(Boxed<TypedExpr>, usize, usize),
+    /// The cell of a record: the record, its object and the field. Where the mark says so, the record is what a relation of
+    /// the same path leads to; such a cell is read as null where the record is, and a store still fails.
+    Cell(Boxed<TypedExpr>, usize, usize, bool),
     /// The element of a list.
     Index(Boxed<TypedExpr>, Boxed<TypedExpr>),
 }
