@@ -1,2 +1,4 @@
 pub mod MethodSteps
+pub mod Ranks
 pub mod StartSteps
+pub mod Images

@@ -1,8 +1,9 @@
-// The instructions of bodies that initialize fields and statics, of methods and of blocks.
+// The instructions of bodies that initialize fields and statics, of methods, of triggers and of blocks.
 
 ghost use Rattle.std.specs.Prelude.{◌≡◌, [], ◌∷◌, ◌++◌, map, false, Some, OnOk, IfOk};
 ghost use Rattle.stack_code.specs.Code as spec;
 ghost use Rattle.stack_code.specs.Images as images;
+ghost use Rattle.typed_program.specs.declared.unit.TypedTrigger.{TypedTrigger as TheTrigger};
 
 use apex_list::Items;
 use apex_num::NoMemory;
@@ -10,7 +11,7 @@ use stack_code::{Code, Instr, Instrs};
 use stack_compiler::{Layout, block_code, emit_expr, put};
 use std::alloc::Global;
 use type_names::TreeFault;
-use typed_program::{TypedExpr, TypedField, TypedMethod, TypedStmt};
+use typed_program::{TypedExpr, TypedField, TypedMethod, TypedStmt, TypedTrigger};
 
 // A value and what is done with it.
 fn emit_with(
@@ -139,6 +140,21 @@ pub fn methods_code(
     let mut codes = Items::new(alloc);
     for method in methods {
         codes.push(method_code(alloc, layout, method)?)?;
+    }
+    Ok(codes)
+}
+
+/// The bodies of triggers.
+pub fn triggers_code(
+    alloc: Global,
+    layout: &Layout,
+    triggers: &[TypedTrigger],
+) -> Result<Items<Code>, NoMemory>
+    ensures { IfOk result (λ codes. codes ≡ map (λ (t : TheTrigger). images.code (spec.block_code layout.now.program.now t.body)) triggers.now) }
+{
+    let mut codes = Items::new(alloc);
+    for trigger in triggers {
+        codes.push(block_code(alloc, layout, trigger.body.as_slice())?)?;
     }
     Ok(codes)
 }

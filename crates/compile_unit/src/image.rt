@@ -4,8 +4,9 @@ ghost use Rattle.std.specs.Prelude.{◌≡◌, map, IfOk};
 ghost use Rattle.stack_code.specs.Images as images;
 ghost use Rattle.typed_program.specs.declared.unit.TypedClass.{TypedClass as TheClass};
 
-use crate::bodies::blocks_code;
+use crate::bodies::{blocks_code, triggers_code};
 use crate::classes::class_code;
+use crate::firings::firings_of;
 use crate::tables::MethodTables;
 use apex_list::Items;
 use apex_num::{NoMemory, Text};
@@ -48,10 +49,14 @@ pub fn compile(alloc: Global, program: &Program) -> Result<Image, NoMemory>
     let tables = MethodTables::of(alloc, program)?;
     let names = names_of(alloc, program.classes.as_slice())?;
     let classes = classes_code(alloc, &layout, &tables)?;
+    let triggers = triggers_code(alloc, &layout, program.triggers.as_slice())?;
+    let firings = firings_of(alloc, program)?;
     let blocks = blocks_code(alloc, &layout, program.blocks.as_slice())?;
     Ok(Image {
         names,
         classes,
+        triggers,
+        firings,
         blocks,
     })
 }

@@ -1,9 +1,10 @@
-//! From typed programs to their images: classes with their tables, constructors, methods and blocks (docs/language.md, "The machine
-//! of whole programs").
+//! From typed programs to their images: classes with their tables, constructors and methods, triggers with what they fire on,
+//! and blocks (docs/language.md, "The machine of whole programs").
 #![tactic(auto)]
 
 mod bodies;
 mod classes;
+mod firings;
 mod image;
 mod parents;
 mod starts;

@@ -11,14 +11,14 @@ ghost use Rattle.stack_code.specs.Machine.{class_of as class_of_body};
 use apex_list::Items;
 use apex_schema::Mode as Access;
 use stack_code::{BodyAt, ClassCode, Dispatch, Image, MethodAt, Starts};
-use txn_heap::Statics;
+use txn_heap::{Statics, Value};
 
 /// The class that a body is of.
 pub fn class_of(body: BodyAt) -> Option<usize>
     ensures { result ≡ class_of_body body }
 {
     match body {
-        BodyAt::Block(_) => None,
+        BodyAt::Block(_) | BodyAt::Trigger(_) => None,
         BodyAt::Method(class, _)
         | BodyAt::Constructor(class, _)
         | BodyAt::Fields(class)
@@ -44,13 +44,44 @@ fn sharing_in(image: &Image, class: Option<usize>) -> Option<Access>
     }
 }
 
-/// The mode of a body's code, where its caller's is this one.
-pub fn mode_of(image: &Image, body: BodyAt, caller: Access) -> Access
-    ensures { result ≡ mode_or (spec.sharing_in image.now (class_of_body body)) caller }
+// The mode of the code of a class, or of none, where its caller's is this one.
+fn class_mode(image: &Image, class: Option<usize>, caller: Access) -> Access
+    ensures { result ≡ mode_or (spec.sharing_in image.now class) caller }
 {
-    match sharing_in(image, class_of(body)) {
+    match sharing_in(image, class) {
         Some(mode) => mode,
         None => caller,
+    }
+}
+
+/// The mode of a body's code, where its caller's is this one.
+pub fn mode_of(image: &Image, body: BodyAt, caller: Access) -> Access
+    ensures { result ≡ spec.mode_in image.now body caller }
+{
+    match body {
+        BodyAt::Trigger(_) => Access::Without,
+        BodyAt::Block(_)
+        | BodyAt::Method(_, _)
+        | BodyAt::Constructor(_, _)
+        | BodyAt::Fields(_)
+        | BodyAt::Statics(_) => class_mode(image, class_of(body), caller),
+    }
+}
+
+/// The firing that a body runs in on this instance, where its caller runs in this one.
+pub fn firing_of(body: BodyAt, this: &Value, caller: usize) -> usize
+    ensures { result ≡ spec.firing_in body this.now caller }
+{
+    match body {
+        BodyAt::Trigger(_) => match this {
+            Value::Object(thing) => thing.place,
+            Value::Plain(_) => caller,
+        },
+        BodyAt::Block(_)
+        | BodyAt::Method(_, _)
+        | BodyAt::Constructor(_, _)
+        | BodyAt::Fields(_)
+        | BodyAt::Statics(_) => caller,
     }
 }
 

@@ -26,6 +26,7 @@ fn code_at(image: &Image, body: BodyAt) -> Option<&Code>
         BodyAt::Constructor(class, n) => image.classes.get(class)?.constructors.get(n),
         BodyAt::Fields(class) => Some(&image.classes.get(class)?.field_values),
         BodyAt::Statics(class) => Some(&image.classes.get(class)?.static_values),
+        BodyAt::Trigger(n) => image.triggers.get(n),
     }
 }
 

@@ -5,14 +5,14 @@ ghost use Rattle.request_states.specs.Values.{null};
 ghost use Rattle.stack_code.specs.Calls as spec;
 ghost use Rattle.stack_code.specs.Machine as machine;
 ghost use Rattle.program_things.specs.Steps.{IsStep};
-ghost use Rattle.metered_vm.specs.Callers.{here_of};
+ghost use Rattle.metered_vm.specs.Callers.{Enters, here_of};
 
-use crate::classes::{chain_of, mode_of, statics_of, unprepared};
+use crate::classes::{chain_of, firing_of, mode_of, statics_of, unprepared};
 use activations::Here;
 use apex_list::{Items, Stack};
 use apex_num::{Cell, LimitKind, NoMemory};
 use apex_schema::Mode as Access;
-use program_things::{Moved, charge};
+use program_things::{Moved, SaveStop, charge};
 use stack_code::{After, BodyAt, Config, Frame, Image, MethodAt, Starts, Waiting};
 use std::alloc::Global;
 use std::mem::replace;
@@ -48,14 +48,16 @@ pub fn enter(
 ) -> Result<(), NoMemory>
     ensures { OnOk result (c.new ≡ spec.enter image.now body args this after (here_of caller) c.old) }
 {
+    let mode = mode_of(image, body, caller.mode);
+    let firing = firing_of(body, &this, caller.firing);
     let frame = Frame {
         body,
         pc: 0,
         here: Here {
             locals: args,
             this,
-            mode: mode_of(image, body, caller.mode),
-            firing: caller.firing,
+            mode,
+            firing,
         },
         stack: Stack::new(alloc),
         handlers: Stack::new(alloc),
@@ -232,4 +234,35 @@ pub fn act_prepare(
     c.top.pc += 1;
     prepare_these(alloc, image, classes, c)?;
     Ok(Moved::Went)
+}
+
+/// Where a save stopped at a trigger that fires, its frame is entered.
+pub fn enter_fired(
+    alloc: Global,
+    image: &Image,
+    stop: SaveStop,
+    c: &mut Config,
+) -> Result<Moved, NoMemory>
+    ensures { IfOk result (λ m. Enters image.now stop c.old m c.new) }
+{
+    match stop {
+        SaveStop::Moved(moved) => Ok(moved),
+        SaveStop::Fires(number, this, firing) => {
+            let caller = caller_of(c);
+            let body = BodyAt::Trigger(number);
+            let this = Value::Object(this);
+            let after = After::Fired(firing);
+            enter(
+                alloc,
+                image,
+                body,
+                Items::new(alloc),
+                this,
+                after,
+                caller,
+                c,
+            )?;
+            Ok(Moved::Went)
+        }
+    }
 }

@@ -1,6 +1,6 @@
 // Code that is left: handlers one by one, then frames, then the request.
 
-ghost use Rattle.std.specs.Prelude.{◌≡◌, ◌<◌, ◌+◌, ◌^◌, ◌∷◌, ◌++◌, [], length, slice_get, IfOk, IfSome, OnOk};
+ghost use Rattle.std.specs.Prelude.{◌≡◌, ◌<◌, ◌+◌, ◌^◌, ◌∷◌, ◌++◌, [], false, length, slice_get, IfOk, IfSome, OnOk};
 ghost use Rattle.std.specs.Option.{option_copied};
 ghost use Rattle.apex_meaning.specs.Exceptions as exceptions;
 ghost use Rattle.platform_errors.specs.Messages as messages;
@@ -12,24 +12,26 @@ ghost use Rattle.stack_code.specs.Steps as spec;
 ghost use Rattle.stack_code.specs.declared.state.Handler.TheVariants as H;
 ghost use Rattle.program_things.specs.Kinds.{as_kind};
 ghost use Rattle.program_things.specs.Steps.{IsStep};
-ghost use Rattle.metered_vm.specs.Leaving.{clauses_in, closed_meter, first_taking, taken_by};
+ghost use Rattle.metered_vm.specs.Leaving.{clauses_in, first_taking, is_firing, left_meter, taken_by};
 
 use crate::fetch::{instr_at, length_of};
 use activations::{Abrupt, Raised};
-use apex_list::Stack;
-use apex_num::{Cell, LimitKind, NoMemory, Text};
+use apex_list::{Boxed, Stack};
+use apex_num::{Cell, LimitKind, NoMemory};
 use apex_requests::{Outcome, Ticket};
 use apex_schema::Schema;
 use limit_meter::Meter;
 use platform_errors::Thrown;
 use program_things::{
-    Moved, ThingKind, ended, failing, is_built_in, is_declared, kind_of, leave, name_of_kind,
-    put_at,
+    Moved, ThingKind, ended, failing, hand_back, is_built_in, is_declared, kind_raised, leave,
+    message_told, name_of_kind, put_at,
 };
-use stack_code::{After, BodyAt, CatchKind, Clause, Config, Handler, Image, Instr, Mode, Waiting};
+use stack_code::{
+    After, BodyAt, CatchKind, Clause, Config, Firing, Frame, Handler, Image, Instr, Mode, Waiting,
+};
 use std::alloc::Global;
 use std::mem::replace;
-use txn_heap::{Exception, Heap, Thing, Value};
+use txn_heap::{Exception, Thing, Value};
 use txn_overlay::Journal;
 
 // ---- what catches
@@ -55,16 +57,6 @@ fn clause_for(image: &Image, thrown: ThingKind, clauses: &[Clause]) -> Option<Cl
         }
     }
     None
-}
-
-// What was thrown.
-fn kind_raised(raised: &Raised, heap: &Heap) -> ThingKind
-    ensures { as_kind result ≡ exceptions.kind_of raised.now heap.now }
-{
-    match raised {
-        Raised::Platform(thrown) => ThingKind::BuiltIn(thrown.class()),
-        Raised::Made(thing) => kind_of(heap.get(*thing)),
-    }
 }
 
 // The clauses of an instruction.
@@ -296,16 +288,23 @@ fn met(
 // ---- the end of a frame
 
 // A call that was open is over.
-fn close(after: After, meter: &mut Meter)
-    ensures { meter.new ≡ closed_meter after meter.old }
+fn leave_call(meter: &mut Meter)
+    ensures { meter.new ≡ left_meter LimitKind.Calls meter.old }
+{
+    if meter.count(LimitKind::Calls) > 0 {
+        meter.leave(LimitKind::Calls);
+    }
+}
+
+// A call that was open is over; what isn't counted is over too.
+fn close(after: &After, c: &mut Config)
+    requires { is_firing after.now ≡ false }
+    ensures { c.new ≡ machine.closed after.now c.old }
 {
     match after {
         After::Begun => {}
-        After::Answered | After::Constructed => {
-            if meter.count(LimitKind::Calls) > 0 {
-                meter.leave(LimitKind::Calls);
-            }
-        }
+        After::Answered | After::Constructed => leave_call(&mut c.world.txn.meter),
+        After::Fired(_) => unreachable!(),
     }
 }
 
@@ -318,20 +317,67 @@ fn give_back(
     value: Value,
     c: &mut Config,
 ) -> Result<Moved, NoMemory>
+    requires { is_firing waiting.after ≡ false }
     ensures { IfOk result (λ m. IsStep (machine.Goes (spec.given_back (record { schema = schema.now; ticket = ticket }) image.now waiting c.old.below value c.old)) m c.new) }
 {
-    close(waiting.after, &mut c.world.txn.meter);
-    c.top = waiting.frame;
-    match waiting.after {
+    let Waiting { frame, after } = waiting;
+    close(&after, c);
+    c.top = frame;
+    match after {
         After::Answered => c.top.stack.push(value)?,
-        After::Constructed | After::Begun => {}
+        After::Constructed | After::Begun | After::Fired(_) => {}
     }
     c.mode = Mode::Running;
     Ok(Moved::Went)
 }
 
+// The save that waits goes on with what a firing came to.
+fn firing_left(
+    alloc: Global,
+    schema: &Schema,
+    ticket: Ticket,
+    image: &Image,
+    firing: Boxed<Firing>,
+    frame: Frame,
+    why: Abrupt,
+    c: &mut Config,
+) -> Result<Moved, NoMemory>
+    ensures { IfOk result (λ m. IsStep (machine.Goes (spec.handed (record { schema = schema.now; ticket = ticket }) image.now firing why (record { frame = frame; after = After.Fired firing }) c.old.below c.old)) m c.new) }
+{
+    hand_back(alloc, image, firing, &why, c)?;
+    c.top = frame;
+    Ok(Moved::Went)
+}
+
+// The body of the frame on top is left, and one waits for it that isn't a save.
+fn call_left(
+    schema: &Schema,
+    ticket: Ticket,
+    image: &Image,
+    waiting: Waiting,
+    why: Abrupt,
+    c: &mut Config,
+) -> Result<Moved, NoMemory>
+    requires { is_firing waiting.after ≡ false }
+    ensures { IfOk result (λ m. IsStep (spec.left_by (record { schema = schema.now; ticket = ticket }) image.now why (waiting ∷ c.old.below) c.old) m c.new) }
+{
+    match why {
+        Abrupt::Throws(raised) => {
+            close(&waiting.after, c);
+            c.top = waiting.frame;
+            c.mode = Mode::Leaving(Abrupt::Throws(raised));
+            Ok(Moved::Went)
+        }
+        Abrupt::Returns(value) => give_back(schema, ticket, image, waiting, value, c),
+        Abrupt::Breaks | Abrupt::Continues => {
+            give_back(schema, ticket, image, waiting, Value::Plain(Cell::Null), c)
+        }
+    }
+}
+
 // The body of the frame on top is left, and this one waits for it.
 fn left_to(
+    alloc: Global,
     schema: &Schema,
     ticket: Ticket,
     image: &Image,
@@ -341,16 +387,20 @@ fn left_to(
 ) -> Result<Moved, NoMemory>
     ensures { IfOk result (λ m. IsStep (spec.left_by (record { schema = schema.now; ticket = ticket }) image.now why (waiting ∷ c.old.below) c.old) m c.new) }
 {
-    match why {
-        Abrupt::Throws(raised) => {
-            close(waiting.after, &mut c.world.txn.meter);
-            c.top = waiting.frame;
-            c.mode = Mode::Leaving(Abrupt::Throws(raised));
-            Ok(Moved::Went)
+    let Waiting { frame, after } = waiting;
+    match after {
+        After::Fired(firing) => { firing_left(alloc, schema, ticket, image, firing, frame, why, c) }
+        After::Answered => {
+            let after = After::Answered;
+            call_left(schema, ticket, image, Waiting { frame, after }, why, c)
         }
-        Abrupt::Returns(value) => give_back(schema, ticket, image, waiting, value, c),
-        Abrupt::Breaks | Abrupt::Continues => {
-            give_back(schema, ticket, image, waiting, Value::Plain(Cell::Null), c)
+        After::Constructed => {
+            let after = After::Constructed;
+            call_left(schema, ticket, image, Waiting { frame, after }, why, c)
+        }
+        After::Begun => {
+            let after = After::Begun;
+            call_left(schema, ticket, image, Waiting { frame, after }, why, c)
         }
     }
 }
@@ -371,35 +421,6 @@ fn finish(
     let journal = replace(&mut c.world.txn.overlay, Journal::new(alloc));
     let writes = journal.into_overlay().into_writes(&ticket)?;
     ended(alloc, writes, c)
-}
-
-// A message as it is told: null as a null is.
-fn message_text(alloc: Global, message: &Cell) -> Result<Text, NoMemory>
-    ensures { IfOk result (λ t. t ≡ exceptions.message_text message.now) }
-{
-    match message {
-        Cell::Text(text) => text.copy(),
-        _ => Text::from_str(alloc, "null"),
-    }
-}
-
-fn message_of(alloc: Global, thing: Option<&Thing>) -> Result<Text, NoMemory>
-    ensures { IfOk result (λ t. t ≡ exceptions.message_text (exceptions.message_of_thing (option_copied thing.entry))) }
-{
-    match thing {
-        Some(Thing::Instance(instance)) => message_text(alloc, &instance.message),
-        Some(Thing::Exception(exception)) => message_text(alloc, &exception.message),
-        _ => Text::from_str(alloc, "null"),
-    }
-}
-
-fn message_told(alloc: Global, raised: &Raised, heap: &Heap) -> Result<Text, NoMemory>
-    ensures { IfOk result (λ t. t ≡ exceptions.message_told raised.now heap.now) }
-{
-    match raised {
-        Raised::Platform(thrown) => thrown.message(alloc),
-        Raised::Made(thing) => message_of(alloc, heap.get(*thing)),
-    }
 }
 
 // Nothing catches what was thrown.
@@ -454,7 +475,7 @@ pub fn leaving(
     match c.top.handlers.pop() {
         Some(handler) => met(alloc, image, schema, ticket, handler, why, c),
         None => match c.below.pop() {
-            Some(waiting) => left_to(schema, ticket, image, waiting, why, c),
+            Some(waiting) => left_to(alloc, schema, ticket, image, waiting, why, c),
             None => over(alloc, image, schema, ticket, why, c),
         },
     }

@@ -17,6 +17,7 @@ ghost use Rattle.program_things.specs.Saves.{IsStepTo};
 ghost use Rattle.metered_vm.specs.Runs.{Ran, Pauses, Waits, told};
 ghost use Rattle.metered_vm.specs.declared.run.Pause.TheVariants as P;
 
+use crate::frames::enter_fired;
 use crate::leaving::leaving;
 use crate::quick::{is_running, quick_run};
 use crate::step::act;
@@ -158,7 +159,8 @@ fn step_aside(
             Ok(moved)
         }
         Mode::Saving(places, run) => {
-            let moved = save(alloc, schema, ticket, places, run, c)?;
+            let stop = save(alloc, image, schema, ticket, places, run, c)?;
+            let moved = enter_fired(alloc, image, stop, c)?;
             Ok(moved)
         }
     }

@@ -22,6 +22,7 @@ use Rattle.typed_program.specs.declared.expr.TypedPlace.{TypedPlace}
 use Rattle.typed_program.specs.declared.expr.TypedBind.TheOpen.{TypedBind-F, TypedExpr-F, TypedNew-F, TypedPart-F, TypedPlace-F, TypedItem-F, TypedOperand-F, TypedPair-F}
 use Rattle.typed_program.specs.declared.expr.TypedBind.TheViews.{roll-TypedBind, roll-TypedExpr, roll-TypedNew, roll-TypedPart, roll-TypedPlace, roll-TypedItem, roll-TypedOperand, roll-TypedPair}
 use Rattle.typed_program.specs.declared.expr.TypedBind.TheFolds.{fold-TypedBind, fold-TypedNew, fold-TypedPart, fold-TypedPlace, fold-TypedItem, fold-TypedOperand, fold-TypedPair, fold-roll-TypedBind, fold-roll-TypedExpr, fold-roll-TypedNew, fold-roll-TypedPart, fold-roll-TypedPlace, fold-roll-TypedItem, fold-roll-TypedOperand, fold-roll-TypedPair, ind-TypedExpr, map-TypedBind, map-TypedExpr, map-TypedNew, map-TypedPart, map-TypedPlace, map-TypedItem, map-TypedOperand, map-TypedPair}
+use Rattle.trigger_things.specs.Things.{place_of}
 use Rattle.typed_program.specs.declared.program.Program.{Program}
 use Rattle.stack_code.specs.declared.code.Instr.{Instr}
 use Rattle.stack_code.specs.declared.code.Instr.TheVariants as I
@@ -168,7 +169,7 @@ module _ (program : Program) (b : Bool) where
   place_layer (TypedPlace-F.«TypedPlace::Local» x) = place_is (TypedPlace-F.«TypedPlace::Local» x) (record { parts = closed_nil b; ready = closed_nil b })
   place_layer (TypedPlace-F.«TypedPlace::Static» c n) = place_is (TypedPlace-F.«TypedPlace::Static» c n) (record { parts = closed_nil b; ready = closed_one b (I.Prepare c) (λ code pc. tt) })
   place_layer (TypedPlace-F.«TypedPlace::Field» e c n) = place_is (TypedPlace-F.«TypedPlace::Field» e.0 c n) (record { parts = e.1; ready = closed_nil b })
-  place_layer (TypedPlace-F.«TypedPlace::Cell» e o n) = place_is (TypedPlace-F.«TypedPlace::Cell» e.0 o n) (record { parts = e.1; ready = closed_nil b })
+  place_layer (TypedPlace-F.«TypedPlace::Cell» e o n g) = place_is (TypedPlace-F.«TypedPlace::Cell» e.0 o n g) (record { parts = e.1; ready = closed_nil b })
   place_layer (TypedPlace-F.«TypedPlace::Index» e i) = place_is (TypedPlace-F.«TypedPlace::Index» e.0 i.0) (record { parts = closed_append b (expr_code program e.0) (expr_code program i.0) e.1 i.1; ready = closed_nil b })
 
   part_layer : (y : TypedPart-F SuchBind SuchExpr SuchNew SuchPart SuchPlace SuchItem SuchOperand SuchPair) → Closed b (part_code (part_in y))
@@ -231,14 +232,14 @@ module _ (program : Program) (b : Bool) where
 
   bind_layer : (y : TypedBind-F SuchBind SuchExpr SuchNew SuchPart SuchPlace SuchItem SuchOperand SuchPair) → Closed b (bind_code (bind_in y)).1
   bind_layer (TypedBind-F.One e) = bind_is (TypedBind-F.One e.0) e.1
-  bind_layer (TypedBind-F.Many how e) = bind_is (TypedBind-F.Many how e.0) e.1
+  bind_layer (TypedBind-F.Many how e) = bind_is (TypedBind-F.Many how e.0) (closed_then b (expr_code program e.0) I.Seen (λ code pc. tt) e.1)
 
   expr_layer : (y : TypedExpr-F SuchBind SuchExpr SuchNew SuchPart SuchPlace SuchItem SuchOperand SuchPair) → Closed b (expr_code program (expr_in y))
   expr_layer (TypedExpr-F.Constant k) = expr_is (TypedExpr-F.Constant k) _ refl (constant_closed b (is_cell k) k)
   expr_layer (TypedExpr-F.«TypedExpr::Local» x) = expr_is (TypedExpr-F.«TypedExpr::Local» x) _ refl (closed_one b (I.Get (S.Local x)) (λ code pc. tt))
   expr_layer (TypedExpr-F.«TypedExpr::Static» c n) = expr_is (TypedExpr-F.«TypedExpr::Static» c n) _ refl (closed_cons b (I.Prepare c) (I.Get (S.Static c n) ∷ []) (λ code pc. tt) (closed_one b (I.Get (S.Static c n)) (λ code pc. tt)))
   expr_layer TypedExpr-F.This = expr_is TypedExpr-F.This _ refl (closed_one b I.This (λ code pc. tt))
-  expr_layer (TypedExpr-F.TriggerVariable v) = expr_is (TypedExpr-F.TriggerVariable v) unbuilt refl (unbuilt_closed b)
+  expr_layer (TypedExpr-F.TriggerVariable v) = expr_is (TypedExpr-F.TriggerVariable v) _ refl (closed_cons b I.This (I.Get (S.Field (place_of v)) ∷ []) (λ code pc. tt) (closed_one b (I.Get (S.Field (place_of v))) (λ code pc. tt)))
   expr_layer (TypedExpr-F.Postfix e ps) = expr_is (TypedExpr-F.Postfix e.0 (map (λ (p : SuchPart). p.0) ps)) _ refl (closed_append b (expr_code program e.0) (joined (map part_code (map (λ (p : SuchPart). p.0) ps))) e.1 (closed_joined b part_code ps))
   expr_layer (TypedExpr-F.Chain e os) = expr_is (TypedExpr-F.Chain e.0 (map (λ (o : SuchOperand). o.0) os)) _ refl (closed_append b (expr_code program e.0) (joined (map operand_code (map (λ (o : SuchOperand). o.0) os))) e.1 (closed_joined b operand_code os))
   expr_layer (TypedExpr-F.Convert how e) = expr_is (TypedExpr-F.Convert how e.0) _ refl (convert_closed b how (expr_code program e.0) e.1)

@@ -8,6 +8,7 @@ use Rattle.typed_program.specs.declared.stmt.TypedStmt.{TypedStmt}
 use Rattle.typed_program.specs.declared.unit.TypedClass.{TypedClass}
 use Rattle.typed_program.specs.declared.unit.TypedConstructor.{TypedConstructor}
 use Rattle.typed_program.specs.declared.unit.TypedMethod.{TypedMethod}
+use Rattle.typed_program.specs.declared.unit.TypedTrigger.{TypedTrigger}
 use Rattle.stack_code.specs.Checked.{IsFineCode, IsFineBlock, IsFineClass, IsChecked}
 use Rattle.stack_code.specs.Code.{fields_code, statics_code, method_code, constructor_code, block_code}
 use Rattle.stack_code.specs.Images.{code, body_code, class_code, classes_from, block_of, image_of}
@@ -42,7 +43,7 @@ chain_inside (suc n) program None = All-nil (λ (x : ℕ). x < length program.cl
 chain_inside (suc n) program (Some c) =
     linked_inside program.classes c (class_at program c) (chain_within n program (parent_of (class_at program c))) refl (chain_inside n program (parent_of (class_at program c)))
 
--- ---- classes and blocks
+-- ---- classes, triggers and blocks
 
 module _ (program : Program) where
   body_fine : (m : TypedMethod) → IsFineCode false (body_code program m)
@@ -75,8 +76,12 @@ module _ (program : Program) where
   block_fine (Ok stmts) = closed_fine false (block_code program stmts) (block_closed program false stmts)
   block_fine (Err fault) = tt
 
+  trigger_fine : (t : TypedTrigger) → IsFineCode false (code (block_code program t.body))
+  trigger_fine t = closed_fine false (block_code program t.body) (block_closed program false t.body)
+
   pub image_checked : IsChecked (image_of program)
   image_checked = record {
     classes = subst (λ n. All (IsFineClass n) (classes_from program 0 program.classes)) (sym (classes_length 0 program.classes)) (classes_fine 0 program.classes);
+    triggers = all_made (λ (t : TypedTrigger). code (block_code program t.body)) (IsFineCode false) trigger_fine program.triggers;
     blocks = all_made (block_of program) IsFineBlock block_fine program.blocks;
   }

@@ -11,7 +11,9 @@ use stack_code::{ClassCode, Clause, Code, Image, Instr};
 pub fn check_image(image: &Image) -> bool
     ensures { IsTrue result ↔ IsChecked image.now }
 {
-    check_classes(image.classes.as_slice()) && check_blocks(image.blocks.as_slice())
+    check_classes(image.classes.as_slice())
+        && check_codes(false, image.triggers.as_slice())
+        && check_blocks(image.blocks.as_slice())
 }
 
 fn check_classes(classes: &[ClassCode]) -> bool

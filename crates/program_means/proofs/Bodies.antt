@@ -8,9 +8,9 @@ use Rattle.request_states.specs.Runs.{Setting, site_of}
 use Rattle.request_states.specs.States.{State, Res, charge}
 use Rattle.apex_num.specs.declared.kind.LimitKind.TheVariants as K
 use Rattle.apex_meaning.specs.Bodies as D
-use Rattle.apex_meaning.specs.Classes.{code_of, constructor_at, fields_at, field_place, no_starts, and_fields, own_starts, starts, Starts}
+use Rattle.apex_meaning.specs.Classes.{code_of, constructor_at, trigger_at, fields_at, field_place, no_starts, and_fields, own_starts, starts, Starts}
 use Rattle.apex_meaning.specs.Expressions.{value_of}
-use Rattle.apex_meaning.specs.Meanings.{Again, Body, Method, Constructor, Fields, Statics, Do, called, dropped}
+use Rattle.apex_meaning.specs.Meanings.{Again, Body, Method, Constructor, Fields, Statics, Trigger, Do, called, dropped}
 use Rattle.apex_meaning.specs.Places as Places
 use Rattle.apex_meaning.specs.Preparing.{constructed, set_message, started, with_statics}
 use Rattle.apex_meaning.specs.Statements.{does_all}
@@ -232,9 +232,11 @@ module _ (setting : Setting) (image : Image) (r : Trail.Run) (is : IsImage setti
   code_in (Constructor c m) = constructed_code program c (constructor_at program c m)
   code_in (Fields c) = Code.fields_code program c 0 (fields_at program c)
   code_in (Statics c) = Code.statics_code program c 0 (fields_at program c)
+  code_in (Trigger n) = Code.method_code program (trigger_at program n)
 
   pub body_does : (b : Body) → DoesSo (D.body_does setting again names b) (code_in b)
   body_does (Method c m) a k st post = method_does (code_of program c m) a k st post
   body_does (Constructor c m) a k st post = constructs_does c (constructor_at program c m) a k st post
   body_does (Fields c) a k st post = fields_does c 0 (fields_at program c) a k st post
   body_does (Statics c) a k st post = statics_does c 0 (fields_at program c) a k st post
+  body_does (Trigger n) a k st post = method_does (trigger_at program n) a k st post

@@ -50,11 +50,11 @@ use Rattle.program_simulation.proofs.Fetch.{fetch_none}
 use Rattle.program_simulation.proofs.Frames.{Follows}
 use Rattle.program_simulation.proofs.Simulates as T
 use Rattle.program_simulation.proofs.Trees.{expr_at}
-use Rattle.program_simulation.proofs.Simulates.{Around, config, world, Stands, same_reply}
+use Rattle.program_simulation.proofs.Simulates.{Around, nothing_under, config, world, Stands, same_reply}
 
 -- nothing waits for a block
 abbrev outer : ℕ → Around
-outer n = record { body = B.Block n; handlers = []; below = [] }
+outer n = record { body = B.Block n; handlers = []; below = nothing_under }
 
 module _ (setting : Setting) (image : Image) (r : Trail.Run) (is : IsImage setting.program image) where
   abbrev site : Site
@@ -73,13 +73,13 @@ module _ (setting : Setting) (image : Image) (r : Trail.Run) (is : IsImage setti
 
   -- ---- how a block ends
 
-  whole_is : (st : State) (w : TxnState) → Stands [] st w → whole setting.ticket st.world ≡ r →
+  whole_is : (st : State) (w : TxnState) → Stands nothing_under st w → whole setting.ticket st.world ≡ r →
       Trail.Ends (reply_of O.Ok (world st w)) (writes_of setting.ticket.session setting.ticket.index w.overlay.now) ≡ r
   whole_is st w a e =
       ap (λ x. Trail.Ends x (writes_of setting.ticket.session setting.ticket.index w.overlay.now)) (same_reply O.Ok [] st w a.alike)
       ∙ ap (λ (j : Layers). Trail.Ends (ended O.Ok st.world) (writes_of setting.ticket.session setting.ticket.index j.now)) a.alike.overlay ∙ e
 
-  uncaught_is : (t : Raised) (st : State) (w : TxnState) → Stands [] st w → left_by setting (Throws t) st.world ≡ r →
+  uncaught_is : (t : Raised) (st : State) (w : TxnState) → Stands nothing_under st w → left_by setting (Throws t) st.world ≡ r →
       Trail.Ends (reply_of (O.Thrown (Things.name_of_kind image (kind_of t st.world.heap)) (message_told t st.world.heap)) (world st w)) no_writes ≡ r
   uncaught_is t st w a e =
       ap (λ n. Trail.Ends (reply_of (O.Thrown n (message_told t st.world.heap)) (world st w)) no_writes) (same_name (kind_of t st.world.heap))
@@ -102,17 +102,17 @@ module _ (setting : Setting) (image : Image) (r : Trail.Run) (is : IsImage setti
   outermost : (n : ℕ) (res : Res (Unit {0})) → ((st : State) → res ≡ Stops (Closes Unfinished) st → ⊥) → run_of setting res ≡ r → Holds (λ u s. T.At site image r (outer n) [] [] s) (T.Stopped site image r (outer n)) res
   outermost n (Gives u st) f e = finished n st e
   outermost n (Stops (Leaves why) st) f e = left n why st e
-  outermost n (Stops (Closes (Halts k m)) st) f e = e
-  outermost n (Stops (Closes (Needs q)) st) f e = e
-  outermost n (Stops (Closes Unfinished) st) f e = f st refl
-  outermost n (Stops (Closes Unbuilt) st) f e = e
+  outermost n (Stops (Closes (Halts k m)) st) f e = λ saved w a. e
+  outermost n (Stops (Closes (Needs q)) st) f e = λ saved w a. e
+  outermost n (Stops (Closes Unfinished) st) f e = λ saved w a. f st refl
+  outermost n (Stops (Closes Unbuilt) st) f e = λ saved w a. e
 
 module _ (setting : Setting) (image : Image) (is : IsImage setting.program image) where
   comes : (n : ℕ) (block : List TypedStmt) → block_at setting.program n ≡ Some block → (tape : List Answer) → T.Runs (site_of setting) image (block_run setting block tape) (start n) tape
   comes n block h tape =
       (stmts_at setting image r is (rounds setting names m) names follows (values (rounds setting names m) follows) block (outer n) [] (first_state tape)
       (outermost setting image r is n (block_does setting block (first_state tape)) (λ st e. rounds_suffice setting block tape st e) refl)).by
-      0 (start n).world.txn (record { alike = record { overlay = refl; minted = refl; counts = counts_none; eight = refl }; calls = none_open }) (is.blocks n ∙ ap (block_or setting.program) h ∙ sym (append-nil (Code.block_code setting.program block))) where
+      0 (start n).world.txn (record { alike = record { overlay = refl; minted = refl; counts = counts_none; eight = refl }; calls = none_open; firings = none_open }) (is.blocks n ∙ ap (block_or setting.program) h ∙ sym (append-nil (Code.block_code setting.program block))) where
         r : Trail.Run
         r = block_run setting block tape
 

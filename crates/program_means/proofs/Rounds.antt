@@ -9,12 +9,13 @@ use Rattle.request_states.specs.Values.{null}
 use Rattle.apex_meaning.specs.Bodies as D
 use Rattle.apex_meaning.specs.Classes.{mode_or}
 use Rattle.apex_meaning.specs.Expressions.{value_of}
-use Rattle.apex_meaning.specs.Meanings.{Again, Body, Method, Constructor, Fields, Statics, back, returned}
+use Rattle.apex_meaning.specs.Meanings.{Again, Body, Method, Constructor, Fields, Statics, Trigger, back, returned}
 use Rattle.save_meaning.specs.Results.{Halts, Needs, Unfinished, Unbuilt, Gives, Stops, Leaves, Closes, Holds}
 use Rattle.save_meaning.specs.Sites.{Site}
 use Rattle.save_meaning.specs.declared.run.TxnState.{TxnState}
 use Rattle.tenant_trails.specs.Runs as Trail
 use Rattle.txn_heap.specs.declared.thing.Value.{Value}
+use Rattle.txn_heap.specs.declared.thing.Value.TheVariants.{Plain, Object}
 use Rattle.typed_program.specs.declared.expr.TypedExpr.{TypedExpr}
 use Rattle.stack_code.specs.Calls as Calls
 use Rattle.stack_code.specs.Code as Code
@@ -30,7 +31,7 @@ use Rattle.program_means.proofs.Open.{round_at}
 use Rattle.program_simulation.proofs.Classes.{IsImage}
 use Rattle.program_simulation.proofs.Frames.{Ground, waits, callee, standing, entered, at_body, Given, Gone, Follows, returns_left, throws_left, breaks_left, continues_left, ends_at}
 use Rattle.program_simulation.proofs.Simulates as T
-use Rattle.program_simulation.proofs.Simulates.{world, Stands}
+use Rattle.program_simulation.proofs.Simulates.{over, world, Stands}
 
 module _ (site : Site) (image : Image) (r : Trail.Run) where
   -- the frame that waits has its own activation
@@ -38,11 +39,13 @@ module _ (site : Site) (image : Image) (r : Trail.Run) where
   given_here g A.Answered v s h x = record { by = λ w b. x.by w b }
   given_here g A.Constructed v s h x = record { by = λ w b. x.by w b }
   given_here g A.Begun v s h x = record { by = λ w b. x.by w b }
+  given_here g (A.Fired f) v s h x = record { by = λ w b. x.by w b }
 
   fled_here : (g : Ground) (after : After) (e : Raised) (s : State) (h : Here) → Gone site image r g after (Leaves (Throws e)) (record s { here = h }) → Gone site image r g after (Leaves (Throws e)) s
   fled_here g A.Answered e s h x = record { by = λ w b. x.by w b }
   fled_here g A.Constructed e s h x = record { by = λ w b. x.by w b }
   fled_here g A.Begun e s h x = record { by = λ w b. x.by w b }
+  fled_here g (A.Fired f) e s h x = record { by = λ w b. x.by w b }
 
   -- a body that ends comes back to the frame that waits
   comes_back : (g : Ground) (body : BodyAt) (after : After) (here : Here) (res : Res (Unit {0})) →
@@ -72,6 +75,7 @@ module _ (setting : Setting) (image : Image) (r : Trail.Run) (is : IsImage setti
     code_is (Constructor c m) = is.constructors c m
     code_is (Fields c) = is.fields c
     code_is (Statics c) = is.static_values c
+    code_is (Trigger n) = is.triggers n
 
     abbrev acts : Body → List Value → Value → Here → Here
     acts b args this here = D.activation setting again names b args this here
@@ -81,12 +85,14 @@ module _ (setting : Setting) (image : Image) (r : Trail.Run) (is : IsImage setti
     same_activation (Constructor c m) args this here = ap (λ o. record { locals = args; this = this; mode = mode_or o here.mode; firing = here.firing }) (is.sharing c)
     same_activation (Fields c) args this here = ap (λ o. record { locals = args; this = this; mode = mode_or o here.mode; firing = here.firing }) (is.sharing c)
     same_activation (Statics c) args this here = ap (λ o. record { locals = args; this = this; mode = mode_or o here.mode; firing = here.firing }) (is.sharing c)
+    same_activation (Trigger n) args (Plain cell) here = refl
+    same_activation (Trigger n) args (Object x) here = refl
 
-    body_at : (b : Body) (args : List Value) (this : Value) (after : After) (g : Ground) (st : State) (w : TxnState) → Stands (waits g after ∷ g.below) st w →
+    body_at : (b : Body) (args : List Value) (this : Value) (after : After) (g : Ground) (st : State) (w : TxnState) → Stands (over (waits g after) g.below) st w →
         Holds (λ v s. s.here ≡ st.here → Given site image r g after v s) (λ why s. s.here ≡ st.here → Gone site image r g after why s) (D.body_runs setting again names b args this st) →
         T.Runs site image r (standing (entered site image r g (at_body b) args this after st.here) st w) st.world.txn.tape
     body_at b args this after g st w stands post =
-        subst (λ (h : Here). T.Runs site image r (record { top = record { body = at_body b; pc = 0; here = h; stack = []; handlers = [] }; mode = M.Running; below = waits g after ∷ g.below; world = world st w }) st.world.txn.tape)
+        subst (λ (h : Here). T.Runs site image r (record { top = record { body = at_body b; pc = 0; here = h; stack = []; handlers = [] }; mode = M.Running; below = waits g after ∷ g.below.frames; world = world st w }) st.world.txn.tape)
         (sym (same_activation b args this st.here))
         ((body_does setting image r is again names follows (values again follows) b (callee g (at_body b) after) [] st1
         (comes_back site image r g (at_body b) after st.here (D.body_does setting again names b st1) post)).by 0 w stands (code_is b ∙ sym (append-nil (code_of_body b)))) where
@@ -95,8 +101,8 @@ module _ (setting : Setting) (image : Image) (r : Trail.Run) (is : IsImage setti
 
   pub follows_rounds : (n : ℕ) → Follows site image r (D.rounds setting names n)
   follows_rounds zero = record {
-    body = λ b args this after g st w stands post. absurd (post refl);
-    loop = λ condition body behind cc bc nc t p q a k st post. absurd post;
+    body = λ b args this after g st w stands post. absurd (post refl g.below.saved w stands.alike);
+    loop = λ condition body behind cc bc nc t p q a k st post. record { by = λ pc w b d. absurd (post a.below.saved w b.alike) };
   }
   follows_rounds (suc n) = record {
     body = λ b args this after g st w stands post. body_at (D.rounds setting names n) (follows_rounds n) b args this after g st w stands post;

@@ -14,6 +14,7 @@ use Rattle.apex_syntax.specs.declared.stmt.DmlOp.{DmlOp}
 use Rattle.apex_meaning.specs.Collections.{items_of}
 use Rattle.apex_meaning.specs.Exceptions as E
 use Rattle.apex_meaning.specs.Expressions.{value_of}
+use Rattle.apex_meaning.specs.Firings.{code_of}
 use Rattle.apex_meaning.specs.Meanings.{Again, Do, Run, Test, all_do, looping, test}
 use Rattle.apex_meaning.specs.Statements as D
 use Rattle.save_meaning.specs.Results.{Gives, Stops, Stop, Leaves, bind}
@@ -240,10 +241,10 @@ module _ (setting : Setting) (image : Image) (r : Trail.Run) (is : IsImage setti
       value_then site image r (value_of setting again names e) (λ v s. D.each_of slot how f (items_of v s.world.heap) s) (Code.expr_code program e) (each_code slot how is) (values e)
       (λ v a k s g. Open.each_at site image r slot how f is h v a k s g)
 
-  save_so : (op : DmlOp) (what : Saved) (e : TypedExpr) → DoesSo (λ st. bind (value_of setting again names e st) (λ v s. save_these site (op_of op) (records_of what v s.world.heap) s)) (Code.expr_code program e ++ I.Save (op_of op) what ∷ [])
+  save_so : (op : DmlOp) (what : Saved) (e : TypedExpr) → DoesSo (λ st. bind (value_of setting again names e st) (λ v s. save_these site (code_of setting again) (op_of op) (records_of what v s.world.heap) s)) (Code.expr_code program e ++ I.Save (op_of op) what ∷ [])
   save_so op what e =
-      value_then site image r (value_of setting again names e) (λ v s. save_these site (op_of op) (records_of what v s.world.heap) s) (Code.expr_code program e) (I.Save (op_of op) what ∷ []) (values e)
-      (λ v a k s h. save_at site image r (op_of op) what v a k [] s h)
+      value_then site image r (value_of setting again names e) (λ v s. save_these site (code_of setting again) (op_of op) (records_of what v s.world.heap) s) (Code.expr_code program e) (I.Save (op_of op) what ∷ []) (values e)
+      (λ v a k s h. save_at setting image r is again follows (op_of op) what v a k [] s h)
 
   try_at : (ss : List SuchStmt) (cs : List SuchCatch) → DoesSo (λ st. E.catching program (map clause_run (catches_in cs)) (all_do (map (D.does setting again names) (stmts_in ss)) st)) (catch_code (map clause_code (catches_in cs)) (joined (map (Code.stmt_code program) (stmts_in ss))))
   try_at ss cs =

@@ -1,11 +1,12 @@
 -- Cells of records in instructions.
-use Rattle.std.proofs.Common.{◌≡◌, ℕ, Bool, true, false, cond, List, [], ◌∷◌, Option, Some, None, refl, sym, ap, ◌∙◌}
+use Rattle.std.proofs.Common.{◌≡◌, ℕ, Bool, true, false, cond, List, [], ◌∷◌, Option, Some, None, refl, ap, ◌∙◌}
 use Rattle.std.specs.Prelude.{slice_get, slice_index_or}
 use Rattle.apex_num.specs.declared.kind.LimitKind.TheVariants.{Alloc}
 use Rattle.apex_meaning.specs.Places.{setting_units, with_cell}
 use Rattle.apex_meaning.specs.Records.{cell_in}
 use Rattle.apex_schema.specs.declared.schema.Schema.{Schema}
 use Rattle.platform_errors.specs.declared.thrown.Thrown.TheVariants.{NullObject}
+use Rattle.txn_heap.specs.Guards.{guard_of, takes_cell}
 use Rattle.txn_heap.specs.declared.thing.Ref.{Ref}
 use Rattle.txn_heap.specs.declared.thing.Thing.{Thing}
 use Rattle.txn_heap.specs.declared.thing.Thing.TheVariants as T
@@ -18,7 +19,7 @@ use Rattle.stack_code.specs.declared.code.Slot.TheVariants as S
 use Rattle.stack_code.specs.declared.state.Config.{Config}
 use Rattle.stack_code.specs.declared.state.World.{World}
 use Rattle.stack_code.specs.Machine.{Next, charged, next, on_calc, on_taken, raise, taken, with_heap}
-use Rattle.stack_code.specs.Things.{cell_stored, change_next, fetch_next, get_next, loaded, set_cell_in_thing, set_next, stored}
+use Rattle.stack_code.specs.Things.{cell_stored, change_next, fetch_next, get_next, if_takes_cell, loaded, set_cell_in_thing, set_next, stored}
 use Rattle.program_things.specs.Cells.{setting_at, setting_of}
 use Rattle.program_things.specs.Steps.{Takes}
 use Rattle.program_things.proofs.Lists.{taken_one}
@@ -29,22 +30,27 @@ use Rattle.program_things.proofs.Same.{with_stack, in_world, calc_alike, charged
 some_is : {A : Type 0} (x y : A) → Some x ≡ Some y → x ≡ y
 some_is x y e = cc
 
+-- a store in a record that may take the cell, at these units
+abbrev pub stored_in : ℕ → Value → Ref × ℕ → Config → (Config → Next) → Next
+stored_in field v s c go =
+    if_takes_cell (takes_cell (guard_of c.world.heap s.0.place) field) c (charged Alloc s.1 c (λ d. go (with_heap d (with_cell field v s.0.place d.world.heap))))
+
 -- a record and its units, where they are these
-setting_is : (field : ℕ) (v : Value) (x y : Ref × ℕ) (c : Config) (go : Config → Next) → Some x ≡ Some y →
-    charged Alloc x.1 c (λ d. go (with_heap d (with_cell field v x.0.place d.world.heap))) ≡ charged Alloc y.1 c (λ d. go (with_heap d (with_cell field v y.0.place d.world.heap)))
-setting_is field v x y c go e = ap (λ (z : Ref × ℕ). charged Alloc z.1 c (λ d. go (with_heap d (with_cell field v z.0.place d.world.heap)))) (some_is x y e)
+setting_is : (field : ℕ) (v : Value) (x y : Ref × ℕ) (c : Config) (go : Config → Next) → Some x ≡ Some y → stored_in field v x c go ≡ stored_in field v y c go
+setting_is field v x y c go e = ap (λ (z : Ref × ℕ). stored_in field v z c go) (some_is x y e)
 
 pub stored_some : (field : ℕ) (on v : Value) (s : Ref × ℕ) (c : Config) (go : Config → Next) → setting_at field on c.world.heap ≡ Some s →
-    cell_stored field on v c go ≡ charged Alloc s.1 c (λ d. go (with_heap d (with_cell field v s.0.place d.world.heap)))
+    cell_stored field on v c go ≡ stored_in field v s c go
 stored_some field (Plain k) v s c go e = cc
 stored_some field (Object q) v s c go e = by (slice_get c.world.heap q.place) e where
-  by : (t : Option Thing) → setting_of field q t ≡ Some s → set_cell_in_thing field v q.place t c go ≡ charged Alloc s.1 c (λ d. go (with_heap d (with_cell field v s.0.place d.world.heap)))
+  by : (t : Option Thing) → setting_of field q t ≡ Some s → set_cell_in_thing field v q.place t c go ≡ stored_in field v s c go
   by (Some (T.Record i)) e = setting_is field v (q, setting_units (slice_index_or i.cells field None)) s c go e
   by (Some (T.Instance i)) e = cc
   by (Some (T.List i)) e = cc
   by (Some (T.Set i)) e = cc
   by (Some (T.Map i)) e = cc
   by (Some (T.Exception i)) e = cc
+  by (Some (T.Guard i)) e = cc
   by None e = cc
 
 pub stored_none : (field : ℕ) (on v : Value) (c : Config) (go : Config → Next) → setting_at field on c.world.heap ≡ None → cell_stored field on v c go ≡ raise NullObject c
@@ -57,7 +63,12 @@ stored_none field (Object q) v c go e = by (slice_get c.world.heap q.place) e wh
   by (Some (T.Set i)) e = refl
   by (Some (T.Map i)) e = refl
   by (Some (T.Exception i)) e = refl
+  by (Some (T.Guard i)) e = refl
   by None e = refl
+
+guarded_alike : (b : Bool) (c : Config) (s : List Value) (x y : Next) → x ≡ y → if_takes_cell b c x ≡ if_takes_cell b (with_stack c s) y
+guarded_alike true c s x y e = e
+guarded_alike false c s x y e = refl
 
 -- other operands make no difference
 pub stored_alike : (field : ℕ) (on v : Value) (c : Config) (s : List Value) (go to : Config → Next) →
@@ -65,12 +76,13 @@ pub stored_alike : (field : ℕ) (on v : Value) (c : Config) (s : List Value) (g
 stored_alike field (Plain k) v c s go to h = refl
 stored_alike field (Object q) v c s go to h = by (slice_get c.world.heap q.place) where
   by : (t : Option Thing) → set_cell_in_thing field v q.place t c go ≡ set_cell_in_thing field v q.place t (with_stack c s) to
-  by (Some (T.Record i)) = charged_alike Alloc (setting_units (slice_index_or i.cells field None)) c s _ _ (λ w. h _)
+  by (Some (T.Record i)) = guarded_alike (takes_cell (guard_of c.world.heap q.place) field) c s _ _ (charged_alike Alloc (setting_units (slice_index_or i.cells field None)) c s _ _ (λ w. h _))
   by (Some (T.Instance i)) = refl
   by (Some (T.List i)) = refl
   by (Some (T.Set i)) = refl
   by (Some (T.Map i)) = refl
   by (Some (T.Exception i)) = refl
+  by (Some (T.Guard i)) = refl
   by None = refl
 
 -- ---- instructions

@@ -1,5 +1,5 @@
 -- Fields of instances in instructions.
-use Rattle.std.proofs.Common.{◌≡◌, ℕ, Bool, true, false, cond, List, [], ◌∷◌, Option, Some, None, refl, sym, ap, ◌∙◌}
+use Rattle.std.proofs.Common.{◌≡◌, ℕ, cond, List, [], ◌∷◌, Option, Some, None, refl, ap, ◌∙◌}
 use Rattle.std.specs.Prelude.{slice_get, slice_index_or}
 use Rattle.apex_meaning.specs.Builtins.{first_of}
 use Rattle.request_states.specs.Values.{null}
@@ -38,6 +38,7 @@ loaded_some place (Object r) v c go e = by (slice_get c.world.heap r.place) e wh
   by (Some (T.Set i)) e = cc
   by (Some (T.Map i)) e = cc
   by (Some (T.Exception i)) e = cc
+  by (Some (T.Guard i)) e = cc
   by None e = cc
 
 pub loaded_none : (place : ℕ) (on : Value) (c : Config) (go : Value → Config → Next) → field_at place on c.world.heap ≡ None → field_loaded place on c go ≡ raise NullObject c
@@ -50,6 +51,7 @@ loaded_none place (Object r) c go e = by (slice_get c.world.heap r.place) e wher
   by (Some (T.Set i)) e = refl
   by (Some (T.Map i)) e = refl
   by (Some (T.Exception i)) e = refl
+  by (Some (T.Guard i)) e = refl
   by None e = refl
 
 pub stored_some : (place : ℕ) (on v : Value) (r : Ref) (c : Config) (go : Config → Next) → instance_at on c.world.heap ≡ Some r → field_stored place on v c go ≡ go (with_heap c (things_changed r.place (thing_after (Now.Set place v)) c.world.heap))
@@ -62,6 +64,7 @@ stored_some place (Object q) v r c go e = by (slice_get c.world.heap q.place) e 
   by (Some (T.Set i)) e = cc
   by (Some (T.Map i)) e = cc
   by (Some (T.Exception i)) e = cc
+  by (Some (T.Guard i)) e = cc
   by None e = cc
 
 pub stored_none : (place : ℕ) (on v : Value) (c : Config) (go : Config → Next) → instance_at on c.world.heap ≡ None → field_stored place on v c go ≡ raise NullObject c
@@ -74,6 +77,7 @@ stored_none place (Object q) v c go e = by (slice_get c.world.heap q.place) e wh
   by (Some (T.Set i)) e = refl
   by (Some (T.Map i)) e = refl
   by (Some (T.Exception i)) e = refl
+  by (Some (T.Guard i)) e = refl
   by None e = refl
 
 -- other operands make no difference
@@ -88,6 +92,7 @@ stored_alike place (Object q) v c s go to h = by (slice_get c.world.heap q.place
   by (Some (T.Set i)) = refl
   by (Some (T.Map i)) = refl
   by (Some (T.Exception i)) = refl
+  by (Some (T.Guard i)) = refl
   by None = refl
 
 -- ---- instructions

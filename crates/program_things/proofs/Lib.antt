@@ -13,3 +13,4 @@ mod Messages
 mod Named
 pub mod Lines
 mod Querying
+mod Fired

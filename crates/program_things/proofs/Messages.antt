@@ -1,5 +1,5 @@
 -- An instance that is put in the place of the one with another message.
-use Rattle.std.proofs.Common.{◌≡◌, ℕ, zero, suc, List, [], ◌∷◌, Option, Some, None, refl, sym, ap, ◌∙◌}
+use Rattle.std.proofs.Common.{◌≡◌, ℕ, zero, suc, List, [], ◌∷◌, Option, Some, None, refl, ap, ◌∙◌}
 use Rattle.std.specs.Prelude.{slice_get, slice_set}
 use Rattle.apex_num.specs.declared.cell.Cell.{Cell}
 use Rattle.apex_meaning.specs.Preparing.{with_message}
@@ -25,4 +25,5 @@ put_there m place heap t e = replaced place t heap ∙ by (slice_get heap place)
   by (Some (T.Set i)) e = cc
   by (Some (T.Map i)) e = cc
   by (Some (T.Exception i)) e = cc
+  by (Some (T.Guard i)) e = cc
   by None e = cc

@@ -1,6 +1,7 @@
 -- What lies on the operand stack makes no difference to what instructions do behind it.
-use Rattle.std.proofs.Common.{◌≡◌, ℕ, ◌+◌, Bool, true, false, cond, List, [], ◌∷◌, ◌++◌, length, map, Option, Some, None, refl, sym, ap, ◌∙◌}
+use Rattle.std.proofs.Common.{◌≡◌, ℕ, ◌+◌, Bool, true, false, cond, List, [], ◌∷◌, length, map, Option, Some, None, refl, sym, ap, ◌∙◌}
 use Rattle.std.specs.Prelude.{leb, slice_get}
+use Rattle.std.specs.Option.{is_some}
 use Rattle.apex_num.specs.declared.cell.Cell.{Cell}
 use Rattle.apex_num.specs.declared.cell.Cell.TheVariants as C
 use Rattle.apex_num.specs.declared.kind.LimitKind.{LimitKind}
@@ -9,7 +10,6 @@ use Rattle.apex_requests.specs.declared.request.Op.{Op as Operation}
 use Rattle.apex_requests.specs.declared.request.Ticket.{Ticket}
 use Rattle.builtin_sizes.specs.Sizes.{sized}
 use Rattle.builtin_table.specs.Answers.{Answer}
-use Rattle.builtin_table.specs.Answers as Answer
 use Rattle.builtin_table.specs.Meanings.{meaning}
 use Rattle.builtin_table.specs.declared.method.Builtin.{Builtin as Which}
 use Rattle.builtin_table.specs.declared.method.Builtin.TheVariants as B
@@ -18,16 +18,16 @@ use Rattle.builtin_table.specs.declared.method.MomentMethod.TheVariants.{Date}
 use Rattle.builtin_table.specs.declared.method.PlatformMethod.{PlatformMethod}
 use Rattle.builtin_table.specs.declared.method.PlatformMethod.TheVariants as P
 use Rattle.heap_methods.specs.Methods.{method, units}
+use Rattle.platform_errors.specs.declared.thrown.Thrown.TheVariants.{NullObject}
 use Rattle.heap_methods.specs.Outcomes.{Outcome, Done, Answers, Throws, done as things_done, units_of}
 use Rattle.apex_meaning.specs.Builtins.{cell_in, first_of, rest_of}
 use Rattle.apex_meaning.specs.Exceptions.{Kind, Nothing, BuiltIn, Declared, kind_of_thing, message_of_thing}
 use Rattle.limit_meter.specs.Charges.{count_of, limit_of}
+use Rattle.request_states.specs.Values.{null}
+use Rattle.txn_heap.specs.Guards.{guard_of, takes_error, with_error}
 use Rattle.txn_heap.specs.declared.thing.Thing.{Thing}
-use Rattle.txn_heap.specs.declared.thing.Thing.TheVariants as T
 use Rattle.txn_heap.specs.declared.thing.Value.{Value}
 use Rattle.txn_heap.specs.declared.thing.Value.TheVariants.{Plain, Object}
-use Rattle.typed_program.specs.declared.expr.CollectionKind.{CollectionKind}
-use Rattle.typed_program.specs.declared.expr.CollectionKind.TheVariants as Kinds
 use Rattle.typed_program.specs.declared.expr.Conversion.{Conversion}
 use Rattle.typed_program.specs.declared.expr.Number.{Number}
 use Rattle.typed_program.specs.declared.expr.StepKind.{StepKind}
@@ -39,13 +39,13 @@ use Rattle.stack_code.specs.declared.code.Slot.TheVariants as S
 use Rattle.stack_code.specs.declared.image.Image.{Image}
 use Rattle.stack_code.specs.declared.state.Config.{Config}
 use Rattle.stack_code.specs.declared.state.World.{World}
-use Rattle.stack_code.specs.Machine.{Next, Goes, charged, charged_if, next, on_calc, on_taken, on_top, raise, taken}
-use Rattle.stack_code.specs.Steps.{operator_next, save_next}
-use Rattle.stack_code.specs.Things.{answered_next, builtin_next, cast_if, cast_next, cells_next, collection, copied_next, done_next, field_loaded, field_stored, if_exception, make_for, message_next, name_of_kind, on_exception, platform_next, set_message, set_next, sized_next, stored, text_next}
+use Rattle.stack_code.specs.Machine.{Next, charged, charged_if, next, on_calc, on_taken, on_top, raise, taken, with_heap}
+use Rattle.stack_code.specs.Steps.{operator_next, save_next, seen_next}
+use Rattle.stack_code.specs.Things.{answered_next, builtin_next, cast_if, cast_next, cells_next, collection, copied_next, done_next, error_next, if_exception, if_takes_error, make_for, message_added, message_next, name_of_kind, on_exception, platform_next, set_message, set_next, sized_next, stored, text_next}
 use Rattle.program_things.specs.Kinds.{cast_fits}
 use Rattle.program_things.specs.Steps.{Takes}
 use Rattle.program_things.specs.Variables.{element, item_fetched, item_got, item_stepped}
-use Rattle.program_things.proofs.Lists.{taken_one, taken_two}
+use Rattle.program_things.proofs.Lists.{taken_two}
 
 -- the same state with other operands, and in another world
 abbrev pub with_stack : Config → List Value → Config
@@ -186,10 +186,22 @@ exception_alike (Plain k) c s go on h = refl
 exception_alike (Object r) c s go on h = if_alike (kind_of_thing (slice_get c.world.heap r.place)) c s _ _ (h (slice_get c.world.heap r.place))
 
 module _ (ticket : Ticket) (image : Image) where
+  added_alike : (message : Cell) (place : ℕ) (c : Config) (s stack : List Value) → message_added message place c stack ≡ message_added message place (with_stack c s) stack
+  added_alike (C.Text t) place c s stack = by (takes_error (guard_of c.world.heap place)) where
+    by : (b : Bool) → if_takes_error b c (next (with_heap c (with_error place t c.world.heap)) (null ∷ stack)) ≡ if_takes_error b (with_stack c s) (next (with_heap (with_stack c s) (with_error place t c.world.heap)) (null ∷ stack))
+    by true = refl
+    by false = refl
+  added_alike cell place c s stack = refl
+
+  error_alike : (on message : Value) (c : Config) (s stack : List Value) → error_next on message c stack ≡ error_next on message (with_stack c s) stack
+  error_alike (Plain k) message c s stack = refl
+  error_alike (Object r) message c s stack = added_alike (cell_in message) r.place c s stack
+
   platform_alike : (m : PlatformMethod) (vs : List Value) (c : Config) (s stack : List Value) → platform_next ticket image m vs c stack ≡ platform_next ticket image m vs (with_stack c s) stack
   platform_alike P.Today vs c s stack = answered_alike (meaning (B.Moment Date) (C.Moment ticket.now ∷ [])) c s stack
   platform_alike P.Message vs c s stack = exception_alike (first_of vs) c s _ _ (λ t. message_alike (message_of_thing t) c s stack)
   platform_alike P.TypeName vs c s stack = exception_alike (first_of vs) c s _ _ (λ t. text_alike (name_of_kind image (kind_of_thing t)) c s stack)
+  platform_alike P.AddError vs c s stack = error_alike (first_of vs) (first_of (rest_of vs)) c s stack
   platform_alike _ vs c s stack = refl
 
   pub builtin_alike : (which : Which) (vs : List Value) (c : Config) (s stack : List Value) → builtin_next ticket image which vs c stack ≡ builtin_next ticket image which vs (with_stack c s) stack
@@ -211,3 +223,15 @@ told_alike (Plain k) vs c s stack = refl
 pub save_alike : (op : Operation) (r : Option (ℕ × List ℕ)) (c : Config) (s stack : List Value) → save_next op r c stack ≡ save_next op r (with_stack c s) stack
 save_alike op None c s stack = refl
 save_alike op (Some r) c s stack = refl
+
+pub seen_alike : (found : Option (List Value)) (v : Value) (c : Config) (s stack : List Value) → seen_next found v c stack ≡ seen_next found v (with_stack c s) stack
+seen_alike None v c s stack = refl
+seen_alike (Some items) v c s stack = refl
+
+pub seen : (found : Option (List Value)) (v : Value) (c : Config) (stack : List Value) → is_some found ≡ true → seen_next found v c stack ≡ next c (v ∷ stack)
+seen None v c stack e = cc
+seen (Some items) v c stack e = refl
+
+pub not_seen : (found : Option (List Value)) (v : Value) (c : Config) (stack : List Value) → is_some found ≡ false → seen_next found v c stack ≡ raise NullObject c
+not_seen None v c stack e = refl
+not_seen (Some items) v c stack e = cc

@@ -6,3 +6,4 @@ pub mod Saves
 pub mod Values
 pub mod Records
 pub mod Cells
+pub mod Firings

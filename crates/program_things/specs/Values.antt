@@ -33,6 +33,7 @@ is_value (I.SetStatic k n) = true
 is_value (I.Parent field goes_on) = true
 is_value (I.Children object field goes_on) = true
 is_value I.Only = true
+is_value I.Seen = true
 is_value (I.Query q kinds) = true
 is_value (I.Save op what) = true
 is_value I.Unbuilt = true

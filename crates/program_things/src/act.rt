@@ -7,7 +7,7 @@ ghost use Rattle.program_things.specs.Steps.{IsStep};
 ghost use Rattle.program_things.specs.Values.{is_value};
 
 use crate::builtins::act_builtin;
-use crate::collections::{act_copied, act_entries, act_filled};
+use crate::collections::{act_copied, act_entries, act_filled, act_seen};
 use crate::ends::refused;
 use crate::moved::Moved;
 use crate::queries::{act_children, act_only, act_parent, act_query};
@@ -75,6 +75,7 @@ pub fn act_value(
             act_children(alloc, schema, *object, *field, *goes_on, c)
         }
         Instr::Only => act_only(alloc, c),
+        Instr::Seen => act_seen(alloc, c),
         Instr::Query(queried, kinds) => act_query(alloc, queried.get(), kinds.as_slice(), c),
         Instr::Save(op, saved) => act_save(alloc, *op, *saved, c),
         Instr::Unbuilt => refused(alloc, c),

@@ -8,6 +8,8 @@ ghost use Rattle.builtin_table.specs.declared.method.MomentMethod.TheVariants.{D
 ghost use Rattle.apex_meaning.specs.Builtins.{cell_in, first_of, rest_of};
 ghost use Rattle.apex_meaning.specs.Exceptions.{kind_of_thing, message_of_thing};
 ghost use Rattle.record_ids.specs.Ids.{most};
+ghost use Rattle.request_states.specs.Values.{null};
+ghost use Rattle.txn_heap.specs.Guards.{guard_of, takes_error, with_error};
 ghost use Rattle.stack_code.specs.Machine as spec;
 ghost use Rattle.stack_code.specs.Things as things;
 ghost use Rattle.program_things.specs.Kinds.{as_kind};
@@ -28,7 +30,7 @@ use platform_errors::Thrown;
 use record_ids::user_id;
 use stack_code::{Config, Image};
 use std::alloc::{AllocError, Global};
-use txn_heap::Value;
+use txn_heap::{Ref, Value};
 
 // ---- methods of primitives
 
@@ -197,6 +199,44 @@ fn on_type_name(alloc: Global, image: &Image, on: &Value, c: &mut Config) -> Res
     }
 }
 
+// ---- errors of records
+
+// An error is added to a record that takes one.
+fn add_error(alloc: Global, message: Text, on: Ref, c: &mut Config) -> Result<Moved, NoMemory>
+    requires { c.old.top.pc + 1 < 2 ^ 64 }
+    ensures { IfOk result (λ m. IsStep (things.if_takes_error (takes_error (guard_of c.old.world.heap on.place)) c.old (spec.next (spec.with_heap c.old (with_error on.place message c.old.world.heap)) (null ∷ c.old.top.stack))) m c.new) }
+{
+    let takes = c.world.heap.takes_error(on);
+    if takes {
+        c.world.heap.add_error(on, message);
+        next_with(Value::Plain(Cell::Null), c)
+    } else {
+        Ok(raise(alloc, Thrown::NoErrors, c))
+    }
+}
+
+// A null message throws.
+fn message_added(alloc: Global, message: Cell, on: Ref, c: &mut Config) -> Result<Moved, NoMemory>
+    requires { c.old.top.pc + 1 < 2 ^ 64 }
+    ensures { IfOk result (λ m. IsStep (things.message_added message on.place c.old c.old.top.stack) m c.new) }
+{
+    match message {
+        Cell::Text(text) => add_error(alloc, text, on, c),
+        _ => Ok(raise(alloc, Thrown::NullObject, c)),
+    }
+}
+
+// An error is added to the record that a value names.
+fn error_next(alloc: Global, on: &Value, message: Value, c: &mut Config) -> Result<Moved, NoMemory>
+    requires { c.old.top.pc + 1 < 2 ^ 64 }
+    ensures { IfOk result (λ m. IsStep (things.error_next on.now message c.old c.old.top.stack) m c.new) }
+{
+    match on {
+        Value::Plain(_) => Ok(raise(alloc, Thrown::NullObject, c)),
+        Value::Object(thing) => message_added(alloc, cell_of(message), *thing, c),
+    }
+}
+
 // ---- methods that ask the request
 
 fn count_next(kind: LimitKind, c: &mut Config) -> Result<Moved, NoMemory>
@@ -231,6 +271,25 @@ fn first(values: &[Value]) -> Result<Value, NoMemory>
     }
 }
 
+fn second(values: &[Value]) -> Result<Value, NoMemory>
+    ensures { IfOk result (λ v. v ≡ first_of (rest_of values.now)) }
+{
+    match values {
+        [_, rest @ ..] => first(rest),
+        [] => Ok(Value::Plain(Cell::Null)),
+    }
+}
+
+// An error is added to the record that is the first value.
+fn on_error(alloc: Global, values: &[Value], c: &mut Config) -> Result<Moved, NoMemory>
+    requires { c.old.top.pc + 1 < 2 ^ 64 }
+    ensures { IfOk result (λ m. IsStep (things.error_next (first_of values.now) (first_of (rest_of values.now)) c.old c.old.top.stack) m c.new) }
+{
+    let on = first(values)?;
+    let message = second(values)?;
+    error_next(alloc, &on, message, c)
+}
+
 fn on_platform(
     alloc: Global,
     image: &Image,
@@ -249,6 +308,7 @@ fn on_platform(
         PlatformMethod::UserId => next_with(Value::Plain(Cell::Id(user_id(ticket.user))), c),
         PlatformMethod::Message => on_message(alloc, &first(values)?, c),
         PlatformMethod::TypeName => on_type_name(alloc, image, &first(values)?, c),
+        PlatformMethod::AddError => on_error(alloc, values, c),
         PlatformMethod::Queries => count_next(LimitKind::Queries, c),
         PlatformMethod::QueryRows => count_next(LimitKind::Rows, c),
         PlatformMethod::DmlStatements => count_next(LimitKind::Dml, c),

@@ -6,6 +6,7 @@ ghost use Rattle.apex_num.specs.declared.kind.LimitKind.TheVariants.{Alloc};
 ghost use Rattle.apex_meaning.specs.Places.{setting_units, with_cell};
 ghost use Rattle.apex_meaning.specs.Records as reads;
 ghost use Rattle.request_states.specs.Values.{null};
+ghost use Rattle.txn_heap.specs.Guards.{guard_of, takes_cell};
 ghost use Rattle.value_operators.specs.Operators as operators;
 ghost use Rattle.stack_code.specs.declared.code.Slot.TheVariants as S;
 ghost use Rattle.stack_code.specs.Machine as spec;
@@ -172,6 +173,26 @@ fn know(
     }
 }
 
+// Stores in a cell, where what guards the record lets it take the cell, and puts another value.
+fn store_in(
+    alloc: Global,
+    setting: (Ref, u64),
+    field: usize,
+    value: Value,
+    put: Value,
+    c: &mut Config,
+) -> Result<Moved, NoMemory>
+    requires { c.old.top.pc + 1 < 2 ^ 64 }
+    ensures { IfOk result (λ m. IsStep (things.if_takes_cell (takes_cell (guard_of c.old.world.heap setting.0.place) field) c.old (spec.charged Alloc setting.1 c.old (λ d. spec.next (spec.with_heap d (with_cell field value setting.0.place d.world.heap)) (put ∷ c.old.top.stack)))) m c.new) }
+{
+    let takes = c.world.heap.takes_cell(setting.0, field);
+    if takes {
+        know(setting, field, value, put, c)
+    } else {
+        Ok(raise(alloc, Thrown::ReadOnly, c))
+    }
+}
+
 // Stores in a cell, and puts another value.
 fn cell_stored(
     alloc: Global,
@@ -185,7 +206,7 @@ fn cell_stored(
     ensures { IfOk result (λ m. IsStep (things.cell_stored field on.now value c.old (λ d. spec.next d (put ∷ c.old.top.stack))) m c.new) }
 {
     match setting(field, on, &c.world.heap) {
-        Some(setting) => know(setting, field, value, put, c),
+        Some(setting) => store_in(alloc, setting, field, value, put, c),
         None => Ok(raise(alloc, Thrown::NullObject, c)),
     }
 }

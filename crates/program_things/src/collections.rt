@@ -5,9 +5,12 @@ ghost use Rattle.apex_num.specs.declared.kind.LimitKind.TheVariants as K;
 ghost use Rattle.heap_methods.specs.Outcomes.{content};
 ghost use Rattle.heap_methods.specs.Making as making;
 ghost use Rattle.heap_methods.specs.Plans.{planned};
+ghost use Rattle.std.specs.Option.{is_some, option_copied};
+ghost use Rattle.apex_meaning.specs.Collections as items;
 ghost use Rattle.apex_meaning.specs.Collections.{collection as made_as};
 ghost use Rattle.txn_heap.specs.declared.thing.Thing.TheVariants as T;
 ghost use Rattle.stack_code.specs.Machine as spec;
+ghost use Rattle.stack_code.specs.Steps as steps;
 ghost use Rattle.stack_code.specs.Things as things;
 ghost use Rattle.program_things.specs.Steps.{IsStep};
 ghost use Rattle.program_things.specs.Collects.{Collects, Carries, SameFrame, Throws, ThrowsBy, TakesPair, filled_of, flat};
@@ -23,7 +26,7 @@ use heap_units::{plan_units, thing_units};
 use platform_errors::Thrown;
 use stack_code::Config;
 use std::alloc::{AllocError, Global};
-use txn_heap::{Entries, Ref, Thing, Value};
+use txn_heap::{Entries, Heap, Ref, Thing, Value};
 use typed_program::CollectionKind;
 
 // ---- methods
@@ -211,4 +214,46 @@ pub fn act_copied(alloc: Global, kind: CollectionKind, c: &mut Config) -> Result
 {
     let from = take(&mut c.top.stack);
     copied_next(alloc, collection_of(kind), &from, c)
+}
+
+// ---- items
+
+// Whether the thing is a list or a set.
+fn has_items(thing: Option<&Thing>) -> bool
+    ensures { result ≡ is_some (items.items_of_thing (option_copied thing.entry)) }
+{
+    match thing {
+        Some(Thing::List(_)) | Some(Thing::Set(_)) => true,
+        _ => false,
+    }
+}
+
+fn names_items(value: &Value, heap: &Heap) -> bool
+    ensures { result ≡ is_some (items.items_of value.now heap.now) }
+{
+    match value {
+        Value::Plain(_) => false,
+        Value::Object(thing) => has_items(heap.get(*thing)),
+    }
+}
+
+fn seen_next(alloc: Global, value: Value, c: &mut Config) -> Result<Moved, NoMemory>
+    requires { c.old.top.pc + 1 < 2 ^ 64 }
+    ensures { IfOk result (λ m. IsStep (steps.seen_next (items.items_of value c.old.world.heap) value c.old c.old.top.stack) m c.new) }
+{
+    let seen = names_items(&value, &c.world.heap);
+    if seen {
+        next_with(value, c)
+    } else {
+        Ok(raise(alloc, Thrown::NullObject, c))
+    }
+}
+
+/// Takes a list or a set that is there and puts it; a null one throws.
+pub fn act_seen(alloc: Global, c: &mut Config) -> Result<Moved, NoMemory>
+    requires { c.old.top.pc + 1 < 2 ^ 64 }
+    ensures { IfOk result (λ m. IsStep (spec.on_top c.old.top.stack (λ v stack. steps.seen_next (items.items_of v c.old.world.heap) v c.old stack)) m c.new) }
+{
+    let value = take(&mut c.top.stack);
+    seen_next(alloc, value, c)
 }

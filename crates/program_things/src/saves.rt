@@ -2,19 +2,18 @@
 
 ghost use Rattle.std.specs.Prelude.{◌≡◌, ◌<◌, ◌+◌, ◌^◌, IfOk, OnOk};
 ghost use Rattle.request_states.specs.Statements as statements;
-ghost use Rattle.request_states.specs.Statements.{no_triggers};
 ghost use Rattle.save_measures.specs.Paid.{IsPaid};
 ghost use Rattle.save_stages.specs.Does.{IsSound, HasIds, site_of};
 ghost use Rattle.save_moves.specs.Advances.{Advances};
-ghost use Rattle.stack_code.specs.declared.image.Image.{Image as AnyImage};
 ghost use Rattle.stack_code.specs.declared.state.Mode.TheVariants as M;
 ghost use Rattle.stack_code.specs.Machine as spec;
 ghost use Rattle.stack_code.specs.Steps as steps;
-ghost use Rattle.program_things.specs.Saves.{BehindSave, IsStepTo};
+ghost use Rattle.program_things.specs.Firings.{BehindStop, SavesTo};
 ghost use Rattle.program_things.specs.Steps.{IsStep};
 
-use crate::ends::{limited, refused};
-use crate::moved::Moved;
+use crate::ends::limited;
+use crate::firings::fire;
+use crate::moved::{Moved, SaveStop};
 use crate::operands::{raise, set_mode, take};
 use crate::records::{name_records, records_of, rows_in};
 use activations::{Abrupt, Raised};
@@ -23,11 +22,10 @@ use apex_num::NoMemory;
 use apex_requests::{Op, Ticket};
 use apex_schema::Schema;
 use platform_errors::Thrown;
-use save_firings::TriggerTable;
 use save_meaning::TxnState;
 use save_moves::{Stopped, advance, first_run};
 use save_statements::{Manner, RecordOutcome, SaveRun};
-use stack_code::{Config, Mode};
+use stack_code::{Config, Image, Mode};
 use std::alloc::Global;
 use typed_program::Saved;
 
@@ -71,9 +69,10 @@ fn name_saved(places: &[usize], outcomes: &[RecordOutcome], c: &mut Config) -> R
     name_records(places, outcomes, &mut c.world.heap)
 }
 
-// On with a save to where it stops. No trigger fires: there are none yet.
+// On with a save to where it stops.
 fn go_on(
     alloc: Global,
+    image: &Image,
     schema: &Schema,
     ticket: Ticket,
     run: &mut SaveRun,
@@ -82,43 +81,43 @@ fn go_on(
     requires sound { IsSound schema.now }
     requires ids { HasIds ticket }
     requires paid { IsPaid txn.old }
-    ensures { IfOk result (λ s. Advances (site_of schema.now ticket) no_triggers run.old txn.old s run.new txn.new) }
+    ensures { IfOk result (λ s. Advances (site_of schema.now ticket) (steps.triggers_in image.now) run.old txn.old s run.new txn.new) }
 {
-    let table = TriggerTable::none(alloc);
-    advance(alloc, schema, ticket, &table, run, txn)
+    advance(alloc, schema, ticket, image.firings.table(), run, txn)
 }
 
-/// Records are saved, up to the next question or the end of the save.
+/// Records are saved, up to the next question, the next trigger or the end of the save.
 pub fn save(
     alloc: Global,
+    image: &Image,
     schema: &Schema,
     ticket: Ticket,
     places: Items<usize>,
     run: SaveRun,
     c: &mut Config,
-) -> Result<Moved, NoMemory>
+) -> Result<SaveStop, NoMemory>
     requires sound { IsSound schema.now }
     requires ids { HasIds ticket }
     requires paid { IsPaid c.old.world.txn }
-    ensures step { (image : AnyImage) → IfOk result (λ m. IsStepTo schema.now ticket image (spec.in_mode c.old (M.Saving places run)) m c.new) }
-    ensures behind { IfOk result (λ m. BehindSave c.old m c.new) }
+    ensures step { IfOk result (λ stop. SavesTo schema.now ticket image.now (spec.in_mode c.old (M.Saving places run)) stop c.new) }
+    ensures behind { IfOk result (λ stop. BehindStop c.old stop c.new) }
 {
     let mut run = run;
-    match go_on(alloc, schema, ticket, &mut run, &mut c.world.txn)? {
+    match go_on(alloc, image, schema, ticket, &mut run, &mut c.world.txn)? {
         Stopped::Asked(question) => {
             set_mode(c, Mode::Saving(places, run));
-            Ok(Moved::Asked(question))
+            Ok(SaveStop::Moved(Moved::Asked(question)))
         }
-        Stopped::Fired(_, _) => refused(alloc, c),
+        Stopped::Fired(number, context) => fire(alloc, schema, places, run, number, context, c),
         Stopped::Ended(outcomes) => {
             name_saved(places.as_slice(), outcomes.as_slice(), c)?;
             set_mode(c, Mode::Running);
-            Ok(Moved::Went)
+            Ok(SaveStop::Moved(Moved::Went))
         }
         Stopped::Threw(thrown) => {
             set_mode(c, Mode::Leaving(Abrupt::Throws(Raised::Platform(thrown))));
-            Ok(Moved::Went)
+            Ok(SaveStop::Moved(Moved::Went))
         }
-        Stopped::Halted(limit) => Ok(limited(limit, c)),
+        Stopped::Halted(limit) => Ok(SaveStop::Moved(limited(limit, c))),
     }
 }

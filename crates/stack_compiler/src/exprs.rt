@@ -9,6 +9,7 @@ use crate::emitted::{put, sum};
 use crate::layout::Layout;
 use crate::makes::{call_of, put_new, put_static_call};
 use crate::queries::{kind_of, put_query};
+use crate::triggers::put_variable;
 use crate::values::{
     emit_change, emit_constant, emit_fetch, emit_step, emit_store, put_static, put_test,
 };
@@ -101,7 +102,7 @@ pub fn emit_expr(
             let kinds = emit_binds(code, alloc, layout, binds.as_slice())?;
             put_query(code, alloc, query.get(), kinds)
         }
-        TypedExpr::TriggerVariable(_) => put(code, Instr::Unbuilt),
+        TypedExpr::TriggerVariable(variable) => put_variable(code, *variable),
     }
 }
 
@@ -174,7 +175,7 @@ fn emit_parts_of(
     match place {
         TypedPlace::Local(_) | TypedPlace::Static(_, _) => Ok(()),
         TypedPlace::Field(instance, _, _) => emit_expr(code, alloc, layout, instance.get()),
-        TypedPlace::Cell(record, _, _) => emit_expr(code, alloc, layout, record.get()),
+        TypedPlace::Cell(record, _, _, _) => emit_expr(code, alloc, layout, record.get()),
         TypedPlace::Index(list, at) => {
             emit_expr(code, alloc, layout, list.get())?;
             emit_expr(code, alloc, layout, at.get())
@@ -237,7 +238,7 @@ fn emit_bind(
 {
     match bind {
         TypedBind::One(value) => emit_expr(code, alloc, layout, value.get()),
-        TypedBind::Many(_, value) => emit_expr(code, alloc, layout, value.get()),
+        TypedBind::Many(_, value) => emit_with(code, alloc, layout, value.get(), Instr::Seen),
     }
 }
 

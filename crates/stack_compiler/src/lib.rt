@@ -13,6 +13,7 @@ mod layout;
 mod makes;
 mod queries;
 mod stmts;
+mod triggers;
 mod turns;
 mod values;
 

@@ -53,7 +53,7 @@ fn slot_of(layout: &Layout, place: &TypedPlace) -> Result<Slot, NoMemory>
         TypedPlace::Field(_, class, field) => {
             Ok(Slot::Field(layout.field_place(*class, *field)?))
         }
-        TypedPlace::Cell(_, _, field) => Ok(Slot::Cell(*field, false)),
+        TypedPlace::Cell(_, _, field, goes_on) => Ok(Slot::Cell(*field, *goes_on)),
         TypedPlace::Index(_, _) => Ok(Slot::Item),
     }
 }
@@ -66,7 +66,7 @@ fn put_ready(code: &mut Vec<Instr>, layout: &Layout, place: &TypedPlace) -> Resu
         TypedPlace::Static(class, _) => put(code, Instr::Prepare(*class)),
         TypedPlace::Local(_)
         | TypedPlace::Field(_, _, _)
-        | TypedPlace::Cell(_, _, _)
+        | TypedPlace::Cell(_, _, _, _)
         | TypedPlace::Index(_, _) => Ok(()),
     }
 }

@@ -3,9 +3,10 @@ use Rattle.std.specs.Prelude.{slice_get}
 use Rattle.stack_code.specs.declared.state.Mode.TheVariants as M
 use Rattle.stack_code.specs.Machine.{in_mode, instrs_at}
 use Rattle.stack_code.specs.Steps.{act}
+use Rattle.program_things.specs.Firings.{SavesTo}
 use Rattle.program_things.specs.Saves.{IsStepTo}
 use Rattle.program_things.specs.Steps.{IsStep}
-use Rattle.metered_vm.proofs.Once.{act_to, at_mode, is_querying, is_saving, leave_to, query_keeps, save_keeps}
+use Rattle.metered_vm.proofs.Once.{act_to, at_mode, is_querying, is_saving, leave_to, query_keeps, save_to}
 use Rattle.metered_vm.proofs.run.step_aside.Goals as goal
 
 pub returns-in_ok-moved-in-Running-clause-step : goal.returns-in_ok-moved-in-Running-clause-step
@@ -38,10 +39,12 @@ returns-in_ok-moved-in-Querying-clause-keeps c =
 
 pub returns-in_ok-moved-in-Saving-clause-step : goal.returns-in_ok-moved-in-Saving-clause-step
 returns-in_ok-moved-in-Saving-clause-step c =
-    subst (λ y. IsStepTo c.args.schema.now c.args.ticket c.args.image.now y c.in_ok-moved-in-Saving.moved c.save.new.c) (at_mode c.args.c.now (M.Saving c.in-Saving.places c.in-Saving.run') (sym c.replace.ensures.value ∙ c.in-Saving.is)) (c.in_ok-moved-in-Saving.ensures.step c.args.image.now)
+    (save_to c.args.schema.now c.args.ticket c.args.image.now c.args.c.now c.in_ok-stop-in-Saving.stop c.save.new.c c.in_ok-moved-in-Saving.moved c.enter_fired.new.c (ap is_saving (sym c.replace.ensures.value ∙ c.in-Saving.is)) c.requires.stands
+    (subst (λ y. SavesTo c.args.schema.now c.args.ticket c.args.image.now y c.in_ok-stop-in-Saving.stop c.save.new.c) (at_mode c.args.c.now (M.Saving c.in-Saving.places c.in-Saving.run') (sym c.replace.ensures.value ∙ c.in-Saving.is)) c.in_ok-stop-in-Saving.ensures.step)
+    c.in_ok-stop-in-Saving.ensures.behind c.in_ok-moved-in-Saving.ensures).0
 
 pub returns-in_ok-moved-in-Saving-clause-keeps : goal.returns-in_ok-moved-in-Saving-clause-keeps
 returns-in_ok-moved-in-Saving-clause-keeps c =
-    save_keeps c.args.schema.now c.args.ticket c.args.image.now c.args.c.now c.in_ok-moved-in-Saving.moved c.save.new.c (ap is_saving (sym c.replace.ensures.value ∙ c.in-Saving.is)) c.requires.stands
-    (subst (λ y. IsStepTo c.args.schema.now c.args.ticket c.args.image.now y c.in_ok-moved-in-Saving.moved c.save.new.c) (at_mode c.args.c.now (M.Saving c.in-Saving.places c.in-Saving.run') (sym c.replace.ensures.value ∙ c.in-Saving.is)) (c.in_ok-moved-in-Saving.ensures.step c.args.image.now))
-    c.in_ok-moved-in-Saving.ensures.behind
+    (save_to c.args.schema.now c.args.ticket c.args.image.now c.args.c.now c.in_ok-stop-in-Saving.stop c.save.new.c c.in_ok-moved-in-Saving.moved c.enter_fired.new.c (ap is_saving (sym c.replace.ensures.value ∙ c.in-Saving.is)) c.requires.stands
+    (subst (λ y. SavesTo c.args.schema.now c.args.ticket c.args.image.now y c.in_ok-stop-in-Saving.stop c.save.new.c) (at_mode c.args.c.now (M.Saving c.in-Saving.places c.in-Saving.run') (sym c.replace.ensures.value ∙ c.in-Saving.is)) c.in_ok-stop-in-Saving.ensures.step)
+    c.in_ok-stop-in-Saving.ensures.behind c.in_ok-moved-in-Saving.ensures).1

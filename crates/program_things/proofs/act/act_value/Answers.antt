@@ -62,6 +62,7 @@ unreachable-requires c = by c.args.instr.now refl c.requires.value where
   by (I.Parent w x) e h = c.in_default.not-Parent w x e
   by (I.Children w x y) e h = c.in_default.not-Children w x y e
   by I.Only e h = c.in_default.not-Only e
+  by I.Seen e h = c.in_default.not-Seen e
   by (I.Query w x) e h = c.in_default.not-Query w x e
   by (I.Save w x) e h = c.in_default.not-Save w x e
   by I.Unbuilt e h = c.in_default.not-Unbuilt e

@@ -1,4 +1,4 @@
-use Rattle.std.proofs.Common.{◌∷◌, sym, ap, subst, ◌∙◌}
+use Rattle.std.proofs.Common.{◌∷◌, sym, subst, ◌∙◌}
 use Rattle.stack_code.specs.declared.state.Config.{Config}
 use Rattle.stack_code.specs.Machine.{next}
 use Rattle.program_things.specs.Steps.{IsStep}
@@ -9,8 +9,8 @@ use Rattle.program_things.proofs.cells.cell_stored.Goals as goal
 pub returns-in-Some : goal.returns-in-Some
 returns-in-Some c =
     let before = c.args.c.now in let go = λ (d : Config). next d (c.args.put ∷ before.top.stack) in
-    renamed c.know.result _ _ c.know.new.c
-    (stored_some c.args.field c.args.on.now c.args.value c.in-Some.setting before go (sym c.setting.ensures ∙ c.in-Some.is)) c.know.ensures
+    renamed c.store_in.result _ _ c.store_in.new.c
+    (stored_some c.args.field c.args.on.now c.args.value c.in-Some.setting before go (sym c.setting.ensures ∙ c.in-Some.is)) c.store_in.ensures
 
 pub returns-in-None : goal.returns-in-None
 returns-in-None c =
