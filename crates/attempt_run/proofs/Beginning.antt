@@ -2,13 +2,12 @@
 use Rattle.std.proofs.Common.{arith, ◌≡◌, refl, sym, ap, subst, ◌∙◌, ℕ, zero, suc, ◌≤◌, false, List, [], ◌∷◌, length, map, replicate, Option, None, Some}
 use Rattle.std.specs.Prelude.{Result, Ok, Err, OnOk, slice_get}
 use Rattle.apex_rows.specs.declared.query.Answer.{Answer}
-use Rattle.legal_trails.specs.Legal.{Session as State, first_state, is_by}
-use Rattle.legal_trails.specs.Served.{Pick, Place, Stage, first_stage, placed}
+use Rattle.legal_trails.specs.Legal.{first_state, is_by}
+use Rattle.legal_trails.specs.Served.{Pick, first_stage, placed}
 use Rattle.legal_trails.specs.Turns.{first_turning}
 use Rattle.row_locks.specs.Locks.{holder_of}
 use Rattle.session_turns.specs.Calls.{IsRunSoFar, closed_session}
 use Rattle.session_runs.specs.Replies.{RunsFrom}
-use Rattle.session_turns.specs.Turns.{tape_of}
 use Rattle.session_turns.specs.declared.attempt.Standing.{Standing}
 use Rattle.session_states.specs.States.{fresh}
 use Rattle.tenant_parts.specs.declared.session.Session.{Session}

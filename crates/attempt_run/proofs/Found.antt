@@ -2,10 +2,10 @@
 use Rattle.std.proofs.Common.{arith, ◌≡◌, refl, sym, ap, subst, ◌∙◌, ℕ, zero, suc, ◌+◌, ◌<◌, cond, Bool, true, false, List, [], ◌∷◌, length, get_or, Option, None, Some}
 use Rattle.std.specs.Prelude.{nat_lt, slice_get}
 use Rattle.std.proofs.lemmas.Option.{get_or_from_slice_get, slice_get_within}
-use Rattle.legal_trails.specs.Served.{Pick, Place, Stage, or_picked}
+use Rattle.legal_trails.specs.Served.{Pick, or_picked}
 use Rattle.session_turns.specs.declared.attempt.Standing.{Standing}
 use Rattle.tenant_parts.specs.declared.session.Session.{Session}
-use Rattle.attempt_run.specs.Picks.{first_in, first_of, first_of_all, is_unfinished, picked_by, unfinished_in}
+use Rattle.attempt_run.specs.Picks.{first_of, first_of_all, is_unfinished, picked_by, unfinished_in}
 use Rattle.attempt_run.specs.Plans.{ArePlans, IsPlan}
 use Rattle.attempt_run.specs.declared.plan.Plan.{Plan}
 use Rattle.attempt_run.proofs.Lists.{none_some, some_is}

@@ -1,4 +1,5 @@
 mod Beginning
+mod Cursors
 mod Found
 mod Listing
 mod Lists

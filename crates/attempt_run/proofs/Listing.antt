@@ -1,5 +1,5 @@
 -- The list of turns, place by place.
-use Rattle.std.proofs.Common.{arith, ◌≡◌, refl, sym, ap, subst, ◌∙◌, ℕ, zero, suc, ◌+◌, ◌<◌, ◌≤◌, List, [], ◌∷◌, drop, get_or, length, map, Option}
+use Rattle.std.proofs.Common.{arith, ◌≡◌, refl, ap, subst, ◌∙◌, ℕ, zero, suc, ◌+◌, ◌<◌, ◌≤◌, List, [], ◌∷◌, drop, get_or, length, map, Option}
 use Rattle.std.specs.Prelude.{Result, Ok, Err, OnOk}
 use Rattle.session_turns.specs.declared.attempt.Standing.{Standing}
 use Rattle.tenant_shards.specs.Shards.{Shared}

@@ -1,5 +1,5 @@
 -- Whose turn it is, by the stage and by how far the sessions are.
-use Rattle.std.proofs.Common.{arith, ◌≡◌, refl, sym, ap, subst, ◌∙◌, ℕ, zero, suc, ◌+◌, cond, Bool, List, [], ◌∷◌, length, map, Option, None, Some}
+use Rattle.std.proofs.Common.{◌≡◌, refl, sym, ap, subst, ◌∙◌, ℕ, zero, suc, ◌+◌, cond, List, [], ◌∷◌, length, Option, None, Some}
 use Rattle.std.specs.Prelude.{nat_lt, slice_get}
 use Rattle.legal_trails.specs.Legal.{Session as State}
 use Rattle.legal_trails.specs.Served.{Pick, Place, Stage, first_from, first_in as first_at, first_pick, is_below, is_unfinished_in, or_picked, picked}
@@ -7,13 +7,13 @@ use Rattle.session_turns.specs.Turns.{Stands, StandsBy}
 use Rattle.session_turns.specs.declared.attempt.Attempt.{Attempt}
 use Rattle.session_turns.specs.declared.attempt.Standing.{Standing}
 use Rattle.tenant_parts.specs.declared.session.Session.{Session}
-use Rattle.tenant_shards.specs.Parts.{counts_of, tenant_of}
+use Rattle.tenant_shards.specs.Parts.{counts_of}
 use Rattle.tenant_shards.specs.Shards.{Shared}
 use Rattle.tenant_shards.specs.Tenants.{sessions_at}
 use Rattle.attempt_run.specs.Picks.{first_in, first_of, first_of_all, is_unfinished, picked_by, unfinished_in}
 use Rattle.attempt_run.specs.Stages.{ArePlaced, IsPlaced, IsPlacedBy, IsStanding}
 use Rattle.attempt_run.specs.declared.plan.Plan.{Plan}
-use Rattle.attempt_run.proofs.Lists.{none_some, some_is}
+use Rattle.attempt_run.proofs.Lists.{some_is}
 
 -- the state of a session tells how many requests are closed
 abbrev IsSame : Option Session → Option Standing → Option State → Type 0

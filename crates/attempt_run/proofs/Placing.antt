@@ -1,13 +1,10 @@
 -- A turn of one session, and the tenants of the shard.
-use Rattle.std.proofs.Common.{arith, ◌≡◌, inl, inr, refl, sym, ap, subst, ◌∙◌, ℕ, zero, suc, ◌+◌, ◌<◌, ◌≤◌, eqb, Bool, true, false, List, [], ◌∷◌, ◌++◌, map, Option, None, Some}
-use Rattle.std.specs.Prelude.{slice_get, slice_set}
+use Rattle.std.proofs.Common.{arith, ◌≡◌, inl, refl, sym, ap, subst, ◌∙◌, ℕ, zero, suc, ◌+◌, ◌<◌, eqb, Bool, true, false, List, [], ◌∷◌, ◌++◌, map, Option, None, Some}
+use Rattle.std.specs.Prelude.{Result, Ok, Err, OnOk, slice_get, slice_set}
 use Rattle.std.proofs.lemmas.Bool.{eqb-true, eqb-false}
 use Rattle.legal_trails.specs.Legal.{Session as State, first_state, is_by}
-use Rattle.legal_trails.specs.Served.{Pick, Place, Stage, TurnsAt}
+use Rattle.legal_trails.specs.Served.{Place, Stage, TurnsAt}
 use Rattle.legal_trails.specs.Turns.{Turn}
-use Rattle.record_store.specs.Heaps.{rows_in}
-use Rattle.row_locks.specs.Locks.{holder_of}
-use Rattle.session_turns.specs.Calls.{Beside, IsRunSoFar}
 use Rattle.session_runs.specs.Replies.{RunsFrom}
 use Rattle.session_turns.specs.Turns.{Stands, StandsBy, tape_of}
 use Rattle.session_turns.specs.declared.attempt.Attempt.{Attempt}
@@ -16,9 +13,9 @@ use Rattle.session_turns.proofs.Frames.{first, holds_still}
 use Rattle.tenant_parts.specs.declared.session.Session.{Session}
 use Rattle.tenant_shards.specs.Parts.{tenant_of}
 use Rattle.tenant_shards.specs.Shards.{Keeps, Shared}
-use Rattle.tenant_shards.specs.Tenants.{part_at, part_of, sessions_at, sessions_in, trail_in}
-use Rattle.attempt_run.specs.Picks.{is_unfinished}
-use Rattle.attempt_run.specs.Stages.{ArePlaced, HasPlace, HasStage, IsPlaced, IsPlacedBy, IsStanding, TurnsIn, TurnsOn, tapes_of}
+use Rattle.tenant_shards.specs.Tenants.{part_at, part_of, sessions_at, sessions_in}
+use Rattle.attempt_run.specs.Picks.{OthersStay, is_unfinished, unfinished_in}
+use Rattle.attempt_run.specs.Stages.{ArePlaced, HasPlace, HasStage, IsPlaced, IsPlacedBy, IsStanding, SameParts, TurnsIn, TurnsOn, tapes_of}
 use Rattle.attempt_run.specs.declared.plan.Plan.{Plan}
 use Rattle.attempt_run.proofs.Lists.{none_some, set_else, set_there}
 use Rattle.attempt_run.proofs.Still.{standing_still}
@@ -207,3 +204,40 @@ pub with_plan : (plans : List (Option Plan)) (all : List (List Standing)) (plan 
     TurnsOn plans (t, s) all before (slice_set (slice_set all t meanwhile) t later) after
 with_plan plans all plan t s standings later meanwhile before after is_plan are turned =
     subst (λ xs. TurnsOn plans (t, s) all before xs after) (sym (set_twice all t meanwhile later)) (turns_on plans all plan t s standings later before after is_plan are turned)
+
+-- ---- what else stays
+
+in_plan : (o : Option (Option Plan)) (xs ys : List Standing) (k : ℕ) → slice_get xs k ≡ slice_get ys k → unfinished_in o (Some xs) k ≡ unfinished_in o (Some ys) k
+in_plan None xs ys k e = refl
+in_plan (Some None) xs ys k e = refl
+in_plan (Some (Some plan)) xs ys k e = ap (is_unfinished (slice_get plan.sessions k)) e
+
+pub others_stay : (plans : List (Option Plan)) (all : List (List Standing)) (plan : Plan) (t s : ℕ) (standings later meanwhile : List Standing) (before after : Shared) → slice_get all t ≡ Some standings → TurnsIn plan t s standings later before after →
+    OthersStay plans (t, s) all (slice_set (slice_set all t meanwhile) t later)
+others_stay plans all plan t s standings later meanwhile before after are turned u k ne = by (eqb u t) refl where
+  by : (b : Bool) → eqb u t ≡ b → unfinished_in (slice_get plans u) (slice_get (slice_set (slice_set all t meanwhile) t later) u) k ≡ unfinished_in (slice_get plans u) (slice_get all u) k
+  by false q = let other = eqb-false u t q in ap (λ x. unfinished_in (slice_get plans u) x k) (set_else (slice_set all t meanwhile) t u later other ∙ set_else all t u meanwhile other)
+  by true q =
+      let same : u ≡ t = eqb-true u t q in
+      let there : slice_get (slice_set (slice_set all t meanwhile) t later) u ≡ Some later = ap (slice_get (slice_set (slice_set all t meanwhile) t later)) same ∙ set_there (slice_set all t meanwhile) t meanwhile later (set_there all t standings meanwhile are) in
+      let was : slice_get all u ≡ Some standings = ap (slice_get all) same ∙ are in
+      let kept : slice_get later k ≡ slice_get standings k = ap (λ xs. slice_get xs k) turned.later_is ∙ set_else standings s k turned.new (ne same) in
+      ap (λ x. unfinished_in (slice_get plans u) x k) there ∙ in_plan (slice_get plans u) later standings k kept ∙ sym (ap (λ x. unfinished_in (slice_get plans u) x k) was)
+
+pub same_parts : (t : ℕ) (before after : Shared) → Keeps t before after → SameParts before after
+same_parts t before after keeps = record { order = keeps.order; parts = part } where
+  part : (u : ℕ) → part_at u after.tenants ≡ part_at u before.tenants
+  part u = by (eqb u t) refl where
+    by : (b : Bool) → eqb u t ≡ b → part_at u after.tenants ≡ part_at u before.tenants
+    by true q = let same = eqb-true u t q in ap (λ n. part_at n after.tenants) same ∙ keeps.part ∙ sym (ap (λ n. part_at n before.tenants) same)
+    by false q = ap part_of (keeps.others.kept u (eqb-false u t q))
+
+pub same_first : (shard : Shared) → SameParts shard shard
+same_first shard = record { order = refl; parts = λ t. refl }
+
+pub same_next : (first shard after : Shared) → SameParts first shard → SameParts shard after → SameParts first after
+same_next first shard after s t = record { order = t.order ∙ s.order; parts = λ n. t.parts n ∙ s.parts n }
+
+pub same_on : {A E : Type 0} (r : Result A E) (first shard after : Shared) → SameParts first shard → OnOk r (SameParts shard after) → OnOk r (SameParts first after)
+same_on (Ok x) first shard after s t = same_next first shard after s t
+same_on (Err x) first shard after s t = tt

@@ -1,5 +1,5 @@
 -- The turns of a list, and those behind it.
-use Rattle.std.proofs.Common.{arith, ◌≡◌, refl, sym, ap, subst, ◌∙◌, ℕ, zero, suc, ◌+◌, Bool, true, false, List, [], ◌∷◌, cond, Option, None, Some}
+use Rattle.std.proofs.Common.{◌≡◌, refl, sym, ap, subst, ◌∙◌, ℕ, zero, suc, Bool, true, false, List, [], ◌∷◌, cond, Option, None, Some}
 use Rattle.std.specs.Prelude.{slice_get}
 use Rattle.legal_trails.specs.Served.{Pick, RunsOut, Serves, ServesBy, Stage, TurnsAt, first_pick, picked}
 use Rattle.session_turns.specs.declared.attempt.Standing.{Standing}

@@ -1,11 +1,10 @@
 -- Sessions that another one's turn leaves as they are.
-use Rattle.std.proofs.Common.{◌≡◌, ◌⊎◌, inl, inr, refl, sym, ap, subst, ◌∙◌, ℕ, Bool, true, false, List, [], ◌∷◌, Option, None, Some}
+use Rattle.std.proofs.Common.{◌≡◌, ◌⊎◌, inl, inr, refl, sym, ap, subst, ◌∙◌, ℕ, true, false, List, Option, None, Some}
 use Rattle.std.specs.Prelude.{slice_get}
 use Rattle.apex_requests.specs.declared.request.Request.{Request}
 use Rattle.apex_requests.specs.declared.request.Ticket.{Ticket}
 use Rattle.apex_requests.specs.declared.request.Work.{Work}
 use Rattle.apex_schema.specs.declared.schema.Schema.{Schema}
-use Rattle.record_store.specs.Heaps.{rows_in}
 use Rattle.row_locks.specs.Locks.{holder_of}
 use Rattle.legal_trails.specs.Legal.{Session as State, is_by}
 use Rattle.stack_code.specs.declared.image.Image.{Image}
@@ -15,7 +14,7 @@ use Rattle.tenant_shards.specs.Logs.{IsCurrent}
 use Rattle.tenant_shards.specs.Shards.{Shared}
 use Rattle.tenant_shards.specs.Tenants.{part_at, sessions_at}
 use Rattle.session_turns.specs.Calls.{IsClosed, IsOn, IsUndisturbed, but_news}
-use Rattle.session_turns.specs.Turns.{IsOpen, IsTried, Stands, StandsBy}
+use Rattle.session_turns.specs.Turns.{StandsBy}
 use Rattle.session_turns.specs.declared.attempt.Attempt.{Attempt}
 use Rattle.session_turns.specs.declared.attempt.Standing.{Standing}
 use Rattle.attempt_run.specs.Stages.{IsStanding}

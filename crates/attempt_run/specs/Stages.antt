@@ -77,6 +77,11 @@ abbrev pub TurnsOn : List (Option Plan) → Pick → List (List Standing) → Sh
 TurnsOn plans pick all before later after =
     (stage : Stage) → ArePlaced 0 plans all before stage → (next : Stage) × TurnsAt pick stage next × ArePlaced 0 plans later after next
 
+-- a shard has the same tenants as before, with the same parts
+pub record SameParts (before after : Shared) : Type 0 where
+  pub order : after.order ≡ before.order
+  pub parts : (t : ℕ) → part_at t after.tenants ≡ part_at t before.tenants
+
 -- the session that a turn of a list goes to made it; or there is none
 abbrev pub TurnsListed : List (Option Plan) → Pick → List (List Standing) → Shared → List (List Standing) → Shared → Bool → Type 0
 TurnsListed plans turn all before later after true = (pick : Pick) × (picked_by plans all turn ≡ Some pick) × TurnsOn plans pick all before later after

@@ -1,6 +1,6 @@
 // Whose turn it is.
 
-ghost use Rattle.std.specs.Prelude.{◌≡◌, slice_get};
+ghost use Rattle.std.specs.Prelude.{◌≡◌, Some, slice_get};
 ghost use Rattle.attempt_run.specs.Picks as spec;
 
 use crate::plan::Plan;
@@ -9,9 +9,17 @@ use session_turns::Standing;
 use tenant_parts::Session;
 use turn_lists::Turn;
 
+/// A place in the order of all sessions, before which each session has closed its requests: sessions open none again, so it only
+/// moves on, and whoever looks for the first session that isn't at its end begins there.
+#[derive(Clone, Copy, Drop)]
+pub struct Cursor {
+    pub tenant: usize,
+    pub session: usize,
+}
+
 // Whether a session has a request that isn't closed.
 fn is_unfinished(sessions: &[Session], standings: &[Standing], s: usize) -> bool
-    ensures { result ≡ spec.is_unfinished (slice_get sessions.now s) (slice_get standings.now s) }
+    ensures { result ≡ spec.unfinished_of sessions.now standings.now s }
 {
     match sessions.get(s) {
         Some(session) => match standings.get(s) {
@@ -22,11 +30,12 @@ fn is_unfinished(sessions: &[Session], standings: &[Standing], s: usize) -> bool
     }
 }
 
-// The first such session of a tenant.
-fn first_of(sessions: &[Session], standings: &[Standing]) -> Option<usize>
-    ensures { result ≡ spec.first_of 0 sessions.now standings.now }
+// The first such session of a tenant, where there is none below a number.
+fn first_of(sessions: &[Session], standings: &[Standing], from: usize) -> Option<usize>
+    requires { spec.NoneBelow from (spec.unfinished_of sessions.now standings.now) }
+    ensures { spec.IsFirst (spec.unfinished_of sessions.now standings.now) result }
 {
-    'sessions: for s in 0..sessions.len() {
+    'sessions: for s in from..sessions.len() {
         if is_unfinished(sessions, standings, s) {
             return Some(s);
         }
@@ -34,30 +43,66 @@ fn first_of(sessions: &[Session], standings: &[Standing]) -> Option<usize>
     None
 }
 
-// That of the tenant with a number.
-fn first_there(plans: &[Option<Plan>], all: &[Items<Standing>], t: usize) -> Option<usize>
-    ensures { result ≡ spec.first_there (slice_get plans.now t) (slice_get all.now t) }
+// That of a tenant, where it is deployed.
+fn first_in(plan: &Option<Plan>, standings: &[Standing], from: usize) -> Option<usize>
+    requires { spec.NoneBelow from (spec.unfinished_in (Some plan.now) (Some standings.now)) }
+    ensures { spec.IsFirst (spec.unfinished_in (Some plan.now) (Some standings.now)) result }
 {
-    match plans.get(t) {
-        Some(Some(plan)) => match all.get(t) {
-            Some(standings) => first_of(plan.sessions.as_slice(), standings.as_slice()),
-            None => None,
-        },
-        Some(None) | None => None,
+    match plan {
+        Some(plan) => first_of(plan.sessions.as_slice(), standings, from),
+        None => None,
     }
 }
 
-/// The first session of all tenants that has a request that isn't closed.
-pub fn first_of_all(plans: &[Option<Plan>], all: &[Items<Standing>]) -> Option<(usize, usize)>
-    ensures { result ≡ spec.first_of_all 0 plans.now all.now }
+// That of the tenant with a number.
+fn first_there(
+    plans: &[Option<Plan>],
+    all: &[Items<Standing>],
+    t: usize,
+    from: usize,
+) -> Option<usize>
+    requires { spec.NoneBelow from (spec.unfinished_in (slice_get plans.now t) (slice_get all.now t)) }
+    ensures { spec.IsFirst (spec.unfinished_in (slice_get plans.now t) (slice_get all.now t)) result }
 {
-    'tenants: for t in 0..plans.len() {
-        match first_there(plans, all, t) {
-            Some(s) => return Some((t, s)),
-            None => {}
+    if t < plans.len() && t < all.len() {
+        first_in(&plans[t], all[t].as_slice(), from)
+    } else {
+        None
+    }
+}
+
+// The place of the first session of all tenants that has a request that isn't closed.
+fn found(plans: &[Option<Plan>], all: &[Items<Standing>], cursor: Cursor) -> Option<Cursor>
+    requires { spec.HasPassed plans.now all.now cursor }
+    ensures { spec.IsFound plans.now all.now result }
+{
+    let mut from = cursor.session;
+    'tenants: for tenant in cursor.tenant..plans.len() {
+        match first_there(plans, all, tenant, from) {
+            Some(session) => return Some(Cursor { tenant, session }),
+            None => from = 0,
         }
     }
     None
+}
+
+/// The first session of all tenants that has a request that isn't closed.
+pub fn first_of_all(
+    plans: &[Option<Plan>],
+    all: &[Items<Standing>],
+    cursor: &mut Cursor,
+) -> Option<(usize, usize)>
+    requires { spec.HasPassed plans.now all.now cursor.old }
+    ensures first { result ≡ spec.first_of_all 0 plans.now all.now }
+    ensures passed { spec.HasPassed plans.now all.now cursor.new }
+{
+    match found(plans, all, *cursor) {
+        Some(first) => {
+            *cursor = first;
+            Some((first.tenant, first.session))
+        }
+        None => None,
+    }
 }
 
 // Whether a session of a tenant has a request that isn't closed.
@@ -74,14 +119,21 @@ fn unfinished_in(plans: &[Option<Plan>], all: &[Items<Standing>], t: usize, s: u
 }
 
 /// The session that makes a turn: the one that the turn names, where it has a request that isn't closed, or the first such one.
-pub fn picked(plans: &[Option<Plan>], all: &[Items<Standing>], turn: Turn) -> Option<(usize, usize)>
-    ensures { result ≡ spec.picked_by plans.now all.now (spec.pick_of turn) }
+pub fn picked(
+    plans: &[Option<Plan>],
+    all: &[Items<Standing>],
+    cursor: &mut Cursor,
+    turn: Turn,
+) -> Option<(usize, usize)>
+    requires { spec.HasPassed plans.now all.now cursor.old }
+    ensures picked { result ≡ spec.picked_by plans.now all.now (spec.pick_of turn) }
+    ensures passed { spec.HasPassed plans.now all.now cursor.new }
 {
     let t = turn.tenant as usize;
     let s = turn.session as usize;
     if unfinished_in(plans, all, t, s) {
         Some((t, s))
     } else {
-        first_of_all(plans, all)
+        first_of_all(plans, all, cursor)
     }
 }

@@ -8,7 +8,7 @@ ghost use Rattle.attempt_run.specs.Picks as picks;
 ghost use Rattle.attempt_run.specs.Plans.{ArePlans, IsPlan};
 ghost use Rattle.attempt_run.specs.Stages as spec;
 
-use crate::picks::{first_of_all, picked};
+use crate::picks::{Cursor, first_of_all, picked};
 use crate::plan::Plan;
 use apex_list::Items;
 use apex_num::NoMemory;
@@ -83,7 +83,9 @@ fn turn_of(
     requires plans { ArePlans plans.now }
     requires placed { spec.HasStage plans.now all.old.items shard.old }
     requires unfinished { picks.unfinished_in (slice_get plans.now t) (slice_get all.old.items t) s ≡ true }
-    ensures { OnOk result (spec.TurnsOn plans.now (t, s) all.old.items shard.old all.new.items shard.new) }
+    ensures turns { OnOk result (spec.TurnsOn plans.now (t, s) all.old.items shard.old all.new.items shard.new) }
+    ensures others { OnOk result (picks.OthersStay plans.now (t, s) all.old.items all.new.items) }
+    ensures same { OnOk result (spec.SameParts shard.old shard.new) }
 {
     match &plans[t] {
         Some(plan) => {
@@ -101,14 +103,18 @@ fn turn_listed(
     alloc: Global,
     plans: &[Option<Plan>],
     all: &mut Vec<Items<Standing>>,
+    cursor: &mut Cursor,
     shard: &mut Shard,
     listed: Turn,
 ) -> Result<bool, NoMemory>
     requires plans { ArePlans plans.now }
     requires placed { spec.HasStage plans.now all.old.items shard.old }
-    ensures { IfOk result (spec.TurnsListed plans.now (picks.pick_of listed) all.old.items shard.old all.new.items shard.new) }
+    requires passed { picks.HasPassed plans.now all.old.items cursor.old }
+    ensures listed { IfOk result (spec.TurnsListed plans.now (picks.pick_of listed) all.old.items shard.old all.new.items shard.new) }
+    ensures passed { OnOk result (picks.HasPassed plans.now all.new.items cursor.new) }
+    ensures same { OnOk result (spec.SameParts shard.old shard.new) }
 {
-    match picked(plans, all, listed) {
+    match picked(plans, all, cursor, listed) {
         Some((t, s)) => {
             turn_of(alloc, plans, all, shard, t, s)?;
             Ok(true)
@@ -122,14 +128,17 @@ fn run_out(
     alloc: Global,
     plans: &[Option<Plan>],
     all: &mut Vec<Items<Standing>>,
+    cursor: &mut Cursor,
     shard: &mut Shard,
 ) -> Result<(), NoMemory>
     requires plans { ArePlans plans.now }
     requires placed { spec.HasStage plans.now all.old.items shard.old }
-    ensures { OnOk result (spec.RunsOutOn plans.now all.old.items shard.old all.new.items shard.new) }
+    requires passed { picks.HasPassed plans.now all.old.items cursor.old }
+    ensures ran { OnOk result (spec.RunsOutOn plans.now all.old.items shard.old all.new.items shard.new) }
+    ensures same { OnOk result (spec.SameParts shard.old shard.new) }
 {
     'turns: for _ in 0..u64::MAX {
-        match first_of_all(plans, all) {
+        match first_of_all(plans, all, cursor) {
             Some((t, s)) => turn_of(alloc, plans, all, shard, t, s)?,
             None => return Ok(()),
         }
@@ -148,14 +157,19 @@ fn run_listed(
 ) -> Result<(), NoMemory>
     requires plans { ArePlans plans.now }
     requires placed { spec.HasStage plans.now all.old.items shard.old }
-    ensures { OnOk result (spec.ServesOn plans.now (map picks.pick_of turns.now) all.old.items shard.old all.new.items shard.new) }
+    ensures serves { OnOk result (spec.ServesOn plans.now (map picks.pick_of turns.now) all.old.items shard.old all.new.items shard.new) }
+    ensures same { OnOk result (spec.SameParts shard.old shard.new) }
 {
+    let mut cursor = Cursor {
+        tenant: 0,
+        session: 0,
+    };
     'listed: for listed in turns {
-        if !turn_listed(alloc, plans, all, shard, *listed)? {
+        if !turn_listed(alloc, plans, all, &mut cursor, shard, *listed)? {
             return Ok(());
         }
     }
-    run_out(alloc, plans, all, shard)
+    run_out(alloc, plans, all, &mut cursor, shard)
 }
 
 /// Runs the sessions of the tenants of a shard that begins, turn by turn. The plans are those of the tenants of a bundle in their
@@ -163,7 +177,7 @@ fn run_listed(
 /// request that isn't closed, and else to the first such session; behind the list sessions run to their ends, the first one first.
 /// A session with no open request opens its next one. Otherwise its attempt goes on to its next pause, and that is served; where
 /// an answer that the attempt had isn't what the rows answer now, its request begins again, and behind the third time it goes on to
-/// its end in one turn. After want of memory the shard is spent.
+/// its end in one turn. The shard has the same tenants then, in their order. After want of memory it is spent.
 pub fn run_turns(
     alloc: Global,
     shard: &mut Shard,
@@ -172,7 +186,8 @@ pub fn run_turns(
 ) -> Result<(), NoMemory>
     requires plans { ArePlans plans.now }
     requires begins { (tenants : List (Perhaps TheTenant)) × spec.Begins plans.now shard.old tenants }
-    ensures { OnOk result ((tenants : List (Perhaps TheTenant)) → spec.Begins plans.now shard.old tenants → spec.AreServed plans.now tenants (map picks.pick_of turns.now) shard.new) }
+    ensures served { OnOk result ((tenants : List (Perhaps TheTenant)) → spec.Begins plans.now shard.old tenants → spec.AreServed plans.now tenants (map picks.pick_of turns.now) shard.new) }
+    ensures same { OnOk result (spec.SameParts shard.old shard.new) }
 {
     let mut all = first_standings(alloc, plans)?;
     run_listed(alloc, plans, &mut all, shard, turns)

@@ -1,3 +1,4 @@
 mod Blocks
+mod Rows
 mod Statuses
 mod Tenants

@@ -1,5 +1,5 @@
 -- Which tenants are run so far (docs/formats.md, "What is built").
-use Rattle.std.specs.Prelude.{◌&&◌, Bool, true, false, List, [], ◌∷◌}
+use Rattle.std.specs.Prelude.{◌&&◌, Bool, true, false, List}
 use Rattle.std.specs.List.{list_all}
 use Rattle.schema_plans.specs.declared.plan.FieldPlan.{FieldPlan}
 use Rattle.schema_plans.specs.declared.plan.ObjectPlan.{ObjectPlan}
@@ -11,11 +11,6 @@ use Rattle.bundle_read.specs.declared.entries.SessionEntry.{SessionEntry}
 use Rattle.bundle_read.specs.declared.entries.TenantPlan.{TenantPlan}
 use Rattle.bundle_read.specs.declared.entries.WorkEntry.{WorkEntry}
 use Rattle.bundle_read.specs.declared.entries.WorkEntry.TheVariants.{Apex, Save}
-use Rattle.tenant_parts.specs.declared.part.TenantPart.{TenantPart}
-
-abbrev pub is_none : {A : Type 0} → List A → Bool
-is_none [] = true
-is_none (x ∷ xs) = false
 
 -- its values come from no other row
 abbrev pub is_plain_kind : PlanKind → Bool
@@ -50,6 +45,6 @@ is_plain_session s = list_all is_plain_request s.requests
 abbrev pub are_plain : List SessionEntry → Bool
 are_plain sessions = list_all is_plain_session sessions
 
--- a tenant, with its part, that has no triggers, and whose requests are blocks
-abbrev pub is_built : TenantPlan → TenantPart → Bool
-is_built t part = is_plain_schema t.schema && is_none part.program.triggers && are_plain t.sessions
+-- a tenant whose objects have no roll-ups, and whose requests are blocks
+abbrev pub is_built : TenantPlan → Bool
+is_built t = is_plain_schema t.schema && are_plain t.sessions

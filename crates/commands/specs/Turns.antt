@@ -1,6 +1,5 @@
 -- What the answers of `turns` say (docs/promises.md).
-use Rattle.std.specs.Prelude.{◌≡◌, ◌⊎◌, ℕ, Bool, true, false, List, [], ◌∷◌, ◌++◌, codes, Option, None, Some, Ok, Err}
-use Rattle.apex_requests.specs.declared.reply.Event.{Event}
+use Rattle.std.specs.Prelude.{◌≡◌, ◌⊎◌, ℕ, true, false, List, [], ◌∷◌, ◌++◌, codes, Option, None, Some, Ok, Err}
 use Rattle.fault_words.specs.declared.fault.Fault.{Fault}
 use Rattle.fault_words.specs.declared.fault.FaultWord.TheVariants.{NotYet}
 use Rattle.bundle_read.specs.declared.entries.Bundle.{Bundle}
@@ -10,15 +9,16 @@ use Rattle.reply_text.specs.Lines.{escaped, word_text}
 use Rattle.reply_text.specs.Reports.{report}
 use Rattle.tenant_parts.specs.declared.part.TenantPart.{TenantPart}
 use Rattle.tenant_front.specs.Parts.{IsPart, IsFrontFault}
-use Rattle.tenant_runs.specs.Tenants.{IsRan}
-use Rattle.stack_code.specs.declared.image.Image.{Image}
+use Rattle.tenant_runs.specs.Tenants.{AreRan}
+use Rattle.turn_lists.specs.declared.turn.Turn.{Turn}
 use Rattle.commands.specs.declared.answer.Made.{Made}
 use Rattle.commands.specs.declared.answer.Made.TheVariants.{Text, Line}
 use Rattle.commands.specs.Answers.{Answered, Outside}
 use Rattle.commands.specs.declared.turns.Book.{Book}
+use Rattle.commands.specs.declared.turns.Judged.{Judged}
 use Rattle.commands.specs.Built.{is_built}
 
--- ---- what a tenant comes to
+-- ---- what a tenant is
 
 -- a form that isn't built
 abbrev pub not_yet_at : List ℕ → Fault
@@ -27,40 +27,47 @@ not_yet_at place = record { place = place; word = NotYet }
 abbrev pub part_not_yet : Fault
 part_not_yet = not_yet_at (codes "part")
 
--- a tenant is deployed, its program is compiled, and it has its trail where it is built; otherwise it has a fault, no code and no
--- events. What isn't built is told only where nothing else is wrong
-abbrev pub IsRanBy : TenantPart → Option Image → List Event → Type 0
-IsRanBy part None trail = ⊥
-IsRanBy part (Some image) trail = IsRan part image trail
+-- a tenant is deployed where it is built, and has a part; otherwise it has a fault. What isn't built is told only where nothing else is
+-- wrong
+abbrev pub Judges : TenantPlan → Option Fault → Option TenantPart → Type 0
+Judges plan None (Some part) = IsPart plan part × (is_built plan ≡ true)
+Judges plan (Some f) None = IsFrontFault plan f ⊎ ((part : TenantPart) × IsPart plan part × (is_built plan ≡ false) × (f ≡ part_not_yet))
+Judges plan None None = ⊥
+Judges plan (Some f) (Some part) = ⊥
 
-abbrev pub Comes : TenantPlan → Option Fault → Option Image → List Event → Type 0
-Comes plan None image trail = (part : TenantPart) × IsPart plan part × (is_built plan part ≡ true) × IsRanBy part image trail
-Comes plan (Some f) image trail =
-    (image ≡ None) × (trail ≡ []) × (IsFrontFault plan f ⊎ ((part : TenantPart) × IsPart plan part × (is_built plan part ≡ false) × (f ≡ part_not_yet)))
+abbrev pub AreJudged : List TenantPlan → List (Option Fault) → List (Option TenantPart) → Type 0
+AreJudged [] faults parts = (faults ≡ []) × (parts ≡ [])
+AreJudged (plan ∷ plans) (f ∷ faults) (p ∷ parts) = Judges plan f p × AreJudged plans faults parts
+AreJudged (plan ∷ plans) _ _ = ⊥
 
-abbrev pub AllCome : List TenantPlan → List (Option Fault) → List (Option Image) → List (List Event) → Type 0
-AllCome [] faults images trails = (faults ≡ []) × (images ≡ []) × (trails ≡ [])
-AllCome (p ∷ ps) (f ∷ fs) (i ∷ is) (t ∷ ts) = Comes p f i t × AllCome ps fs is ts
-AllCome (p ∷ ps) _ _ _ = ⊥
+-- one more is judged
+pub record JudgesNext (plan : TenantPlan) (before after : Judged) : Type 0 where
+  pub fault : Option Fault
+  pub part : Option TenantPart
+  pub judges : Judges plan fault part
+  pub faults : after.faults ≡ before.faults ++ fault ∷ []
+  pub parts : after.parts ≡ before.parts ++ part ∷ []
 
 -- ---- what a bundle comes to
 
--- the images and the trails in the book are those of its tenants, and the text tells the trails
-pub record IsRun (bundle : Bundle) (book : Book) (text : List ℕ) : Type 0 where
+-- each tenant has its part or its fault; the images and the trails in the book are those to which the parts come by the turns of the
+-- list and those behind it; and the text tells the trails
+pub record IsRun (turns : List Turn) (bundle : Bundle) (book : Book) (text : List ℕ) : Type 0 where
   pub faults : List (Option Fault)
-  pub all : AllCome bundle.tenants faults book.images book.trails
+  pub parts : List (Option TenantPart)
+  pub judged : AreJudged bundle.tenants faults parts
+  pub ran : AreRan parts turns book.images book.trails
   pub prints : text ≡ report bundle.tenants faults book.trails
 
-abbrev pub IsRunText : Bundle → Book → Made → Type 0
-IsRunText bundle book (Text text) = IsRun bundle book text
-IsRunText bundle book (Line line) = ⊥
+abbrev pub IsRunText : List Turn → Bundle → Book → Made → Type 0
+IsRunText turns bundle book (Text text) = IsRun turns bundle book text
+IsRunText turns bundle book (Line line) = ⊥
 
--- the bytes are a bundle; and a list of turns isn't built, so there is none
-pub record Runs (listed : Bool) (book : Book) (bytes text : List ℕ) : Type 0 where
-  pub unlisted : listed ≡ false
+-- the bytes are a bundle
+pub record Runs (turns : List Turn) (book : Book) (bytes text : List ℕ) : Type 0 where
   pub bundle : Bundle
   pub is_bundle : IsRead bytes (Ok bundle)
-  pub run : IsRun bundle book text
+  pub run : IsRun turns bundle book text
 
 abbrev pub bad_line : Fault → List ℕ
 bad_line f = codes "bad bundle at " ++ escaped f.place ++ codes ": " ++ word_text f.word ++ 10 ∷ []
@@ -68,25 +75,18 @@ bad_line f = codes "bad bundle at " ++ escaped f.place ++ codes ": " ++ word_tex
 abbrev pub bad_made : Fault → Made
 bad_made f = Line (bad_line f)
 
-abbrev pub turns_not_yet : Fault
-turns_not_yet = not_yet_at (codes "turns")
-
--- the bytes are no bundle, and the line tells their first fault; or they are one, and the list isn't built
-abbrev pub RefusesBy : Bool → List ℕ → Fault → Type 0
-RefusesBy true bytes fault = IsRead bytes (Err fault) ⊎ (((bundle : Bundle) × IsRead bytes (Ok bundle)) × (fault ≡ turns_not_yet))
-RefusesBy false bytes fault = IsRead bytes (Err fault) × ((bundle : Bundle) → IsRead bytes (Ok bundle) → ⊥)
-
-pub record Refuses (listed : Bool) (bytes line : List ℕ) : Type 0 where
+-- the bytes are no bundle, and the line tells their first fault
+pub record Refuses (bytes line : List ℕ) : Type 0 where
   pub fault : Fault
-  pub why : RefusesBy listed bytes fault
+  pub why : IsRead bytes (Err fault)
+  pub none : (bundle : Bundle) → IsRead bytes (Ok bundle) → ⊥
   pub is : line ≡ bad_line fault
 
--- the bytes are a bundle that is run
-pub record IsInput (listed : Bool) (bytes : List ℕ) : Type 0 where
-  pub unlisted : listed ≡ false
+-- the bytes are a bundle
+pub record IsInput (bytes : List ℕ) : Type 0 where
   pub bundle : Bundle
   pub is : IsRead bytes (Ok bundle)
 
--- a status of `turns`, with a list or without, and the book after it
-abbrev pub Turns : Bool → Book → ℕ → Outside → Type 0
-Turns listed book status s = Answered (Runs listed book) (Refuses listed) 3 (IsInput listed) status s
+-- a status of `turns` with this list, and the book after it
+abbrev pub Turns : List Turn → Book → ℕ → Outside → Type 0
+Turns turns book status s = Answered (Runs turns book) Refuses 3 IsInput status s

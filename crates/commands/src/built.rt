@@ -6,7 +6,6 @@ ghost use Rattle.commands.specs.Built as spec;
 
 use bundle_read::{RequestEntry, SessionEntry, TenantPlan, WorkEntry};
 use schema_plans::{FieldPlan, ObjectPlan, PlanKind, SchemaPlan};
-use tenant_parts::TenantPart;
 
 fn is_plain_field(field: &FieldPlan) -> bool
     ensures { result ≡ spec.is_plain_field field.now }
@@ -64,12 +63,9 @@ fn are_plain(sessions: &[SessionEntry]) -> bool
     sessions.iter().all(|session| is_plain_session(session))
 }
 
-/// Whether a tenant, with the part that it is, is one that is run so far: no field of its objects is rolled up, it has no triggers,
-/// and the requests of its sessions are blocks.
-pub fn is_built(plan: &TenantPlan, part: &TenantPart) -> bool
-    ensures { result ≡ spec.is_built plan.now part.now }
+/// Whether a tenant is one that is run so far: no field of its objects is rolled up, and the requests of its sessions are blocks.
+pub fn is_built(plan: &TenantPlan) -> bool
+    ensures { result ≡ spec.is_built plan.now }
 {
-    is_plain_schema(&plan.schema)
-        && part.program.triggers.is_empty()
-        && are_plain(plan.sessions.as_slice())
+    is_plain_schema(&plan.schema) && are_plain(plan.sessions.as_slice())
 }

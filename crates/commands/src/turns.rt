@@ -1,10 +1,8 @@
-// The sessions of a bundle, one behind the other.
+// The sessions of a bundle, turn by turn.
 
-ghost use Rattle.std.specs.Prelude.{◌≡◌, ◌≤◌, ◌+◌, [], true, IfOk, None, Some};
-ghost use Rattle.tenant_front.specs.Parts.{IsPart};
+ghost use Rattle.std.specs.Prelude.{◌≡◌, ◌≤◌, ◌+◌, ◌++◌, ◌∷◌, [], IfOk, OnOk};
 ghost use Rattle.bundle_read.specs.Laws.{AreBounded, IsBounded};
 ghost use Rattle.commands.specs.Answers.{Cause, Makes, most_bytes};
-ghost use Rattle.commands.specs.Built.{is_built as is_built_part};
 ghost use Rattle.commands.specs.Turns as spec;
 
 use crate::answer::{Answer, Made, input, output, status};
@@ -20,7 +18,8 @@ use stack_code::Image;
 use std::alloc::{AllocError, Global};
 use tenant_front::{FrontFault, front};
 use tenant_parts::TenantPart;
-use tenant_runs::{Ran, laws_of_parts, run_tenant};
+use tenant_runs::{Ran, laws_of_parts, run_tenants};
+use turn_lists::Turn;
 
 // The status where the bytes are no bundle.
 const BAD_BUNDLE: u8 = 3;
@@ -33,20 +32,11 @@ pub struct Book {
     pub trails: Items<Items<Event>>,
 }
 
-// What a tenant comes to: its fault or none, its image and its trail.
+// What tenants are: the fault of each or none, and its part where it is deployed.
 #[derive(Drop)]
-struct Came {
-    fault: Option<Fault>,
-    image: Option<Image>,
-    trail: Items<Event>,
-}
-
-// What the tenants of a bundle come to.
-#[derive(Drop)]
-struct AllCame {
+struct Judged {
     faults: Items<Option<Fault>>,
-    images: Items<Option<Image>>,
-    trails: Items<Items<Event>>,
+    parts: Items<Option<TenantPart>>,
 }
 
 fn not_yet(alloc: Global, place: &str) -> Result<Fault, NoMemory>
@@ -58,85 +48,54 @@ fn not_yet(alloc: Global, place: &str) -> Result<Fault, NoMemory>
     })
 }
 
-// What a tenant that is deployed comes to.
-fn deployed(alloc: Global, plan: &TenantPlan, part: TenantPart) -> Result<Came, NoMemory>
-    requires part { IsPart plan.now part }
-    requires bounds { IsBounded plan.now }
-    requires built { is_built_part plan.now part ≡ true }
-    ensures { IfOk result (λ came. spec.Comes plan.now came.fault came.image came.trail) }
+// A tenant more, with its fault or its part.
+fn add(all: &mut Judged, fault: Option<Fault>, part: Option<TenantPart>) -> Result<(), NoMemory>
+    ensures faults { OnOk result (all.new.faults ≡ all.old.faults ++ fault ∷ []) }
+    ensures parts { OnOk result (all.new.parts ≡ all.old.parts ++ part ∷ []) }
 {
-    laws_of_parts();
-    let Ran { image, trail } = run_tenant(alloc, part)?;
-    Ok(Came {
-        fault: None,
-        image: Some(image),
-        trail,
-    })
+    all.faults.push(fault)?;
+    all.parts.push(part)
 }
 
-fn undeployed(alloc: Global, fault: Fault) -> Came
-    ensures fault { result.fault ≡ Some fault }
-    ensures image { result.image ≡ None }
-    ensures trail { result.trail ≡ [] }
-{
-    Came {
-        fault: Some(fault),
-        image: None,
-        trail: Items::new(alloc),
-    }
-}
-
-fn came_of(alloc: Global, plan: &TenantPlan) -> Result<Came, NoMemory>
-    requires bounds { IsBounded plan.now }
-    ensures { IfOk result (λ came. spec.Comes plan.now came.fault came.image came.trail) }
+fn judge(alloc: Global, plan: &TenantPlan, all: &mut Judged) -> Result<(), NoMemory>
+    requires { IsBounded plan.now }
+    ensures { OnOk result (spec.JudgesNext plan.now all.old all.new) }
 {
     match front(alloc, plan) {
         Ok(part) => {
-            if is_built(plan, &part) {
-                deployed(alloc, plan, part)
+            if is_built(plan) {
+                add(all, None, Some(part))
             } else {
-                Ok(undeployed(alloc, not_yet(alloc, "part")?))
+                add(all, Some(not_yet(alloc, "part")?), None)
             }
         }
-        Err(FrontFault::Wrong(fault)) => Ok(undeployed(alloc, fault)),
+        Err(FrontFault::Wrong(fault)) => add(all, Some(fault), None),
         Err(FrontFault::NoMemory) => Err(AllocError),
     }
 }
 
-fn all_came(alloc: Global, tenants: &[TenantPlan]) -> Result<AllCame, NoMemory>
+fn all_judged(alloc: Global, tenants: &[TenantPlan]) -> Result<Judged, NoMemory>
     requires { AreBounded tenants.now }
-    ensures { IfOk result (λ all. spec.AllCome tenants.now all.faults all.images all.trails) }
+    ensures { IfOk result (λ all. spec.AreJudged tenants.now all.faults all.parts) }
 {
-    let mut faults = Items::new(alloc);
-    let mut all_images = Items::new(alloc);
-    let mut trails = Items::new(alloc);
-    'tenants: for t in 0..tenants.len() {
-        let Came {
-            fault,
-            image,
-            trail,
-        } = came_of(alloc, &tenants[t])?;
-        faults.push(fault)?;
-        all_images.push(image)?;
-        trails.push(trail)?;
+    let mut all = Judged {
+        faults: Items::new(alloc),
+        parts: Items::new(alloc),
+    };
+    'tenants: for plan in tenants {
+        judge(alloc, plan, &mut all)?;
     }
-    Ok(AllCame {
-        faults,
-        images: all_images,
-        trails,
-    })
+    Ok(all)
 }
 
 // The text of a run, which the book keeps.
-fn ran(alloc: Global, bundle: &Bundle, book: &mut Book) -> Result<Made, NoMemory>
+fn ran(alloc: Global, bundle: &Bundle, turns: &[Turn], book: &mut Book) -> Result<Made, NoMemory>
     requires { AreBounded bundle.now.tenants }
-    ensures { IfOk result (spec.IsRunText bundle.now book.new) }
+    ensures { IfOk result (spec.IsRunText turns.now bundle.now book.new) }
 {
-    let AllCame {
-        faults,
-        images,
-        trails,
-    } = all_came(alloc, bundle.tenants.as_slice())?;
+    laws_of_parts();
+    let Judged { faults, parts } = all_judged(alloc, bundle.tenants.as_slice())?;
+    let Ran { images, trails } = run_tenants(alloc, parts, turns)?;
     let text = report(alloc, bundle, faults.as_slice(), trails.as_slice())?;
     book.images = images;
     book.trails = trails;
@@ -156,53 +115,50 @@ fn bad_line(alloc: Global, fault: &Fault) -> Result<Made, NoMemory>
 }
 
 // What is made of the bytes of a bundle.
-fn made(alloc: Global, listed: bool, bytes: &[u8], book: &mut Book) -> Result<Made, NoMemory>
-    ensures { IfOk result (Makes (spec.Runs listed book.new) (spec.Refuses listed) bytes.now) }
+fn made(alloc: Global, turns: &[Turn], bytes: &[u8], book: &mut Book) -> Result<Made, NoMemory>
+    ensures { IfOk result (Makes (spec.Runs turns.now book.new) spec.Refuses bytes.now) }
 {
     match read_bundle(alloc, bytes) {
         Ok(bundle) => {
-            if listed {
-                return bad_line(alloc, &not_yet(alloc, "turns")?);
-            }
             laws_of_bundles();
-            ran(alloc, &bundle, book)
+            ran(alloc, &bundle, turns, book)
         }
         Err(BundleFault::Wrong(fault)) => bad_line(alloc, &fault),
         Err(BundleFault::NoMemory) => Err(AllocError),
     }
 }
 
-/// Reads the bundle that the source gives, runs its tenants, one behind the other, and of each its sessions, one behind the
-/// other; keeps their code and their trails in the book, and writes the report to the sink. `listed` says whether a list of
-/// turns is given, which isn't built yet. The status is 0 for that, 2 where the source failed, 3 where the bytes are no bundle, 4
-/// where the sink failed, 5 where memory was refused, and 6 where the source gives more than 67,108,864 bytes. With status 3 a
-/// line is written that tells the first fault and its place, or `bad bundle at turns: NotYet` where a list is given with a
-/// bundle.
+/// Reads the bundle that the source gives, and runs the sessions of its tenants turn by turn on one shard: first the turns of the
+/// list, each by the session that it names where that has a request that isn't closed, and else by the first such session, and then
+/// those of the sessions that aren't at their ends, the first one first. It keeps the tenants' code and their trails in the book, and
+/// writes the report to the sink. The status is 0 for that, 2 where the source failed, 3 where the bytes are no bundle, 4 where the
+/// sink failed, 5 where memory was refused, and 6 where the source gives more than 67,108,864 bytes. With status 3 a line is written
+/// that tells the first fault and its place.
 pub fn run_turns_text<S: Source, K: Sink>(
     alloc: Global,
-    listed: bool,
+    turns: &[Turn],
     source: &mut S,
     sink: &mut K,
     book: &mut Book,
 ) -> u8
     requires images { book.old.images ≡ [] }
     requires trails { book.old.trails ≡ [] }
-    ensures turns { spec.Turns listed book.new result (record { left = S.left source.old; later = S.left source.new; read_faults = S.faults source.old; read_faults_later = S.faults source.new; held = K.held sink.old; held_later = K.held sink.new; write_faults = K.faults sink.old; write_faults_later = K.faults sink.new }) }
+    ensures turns { spec.Turns turns.now book.new result (record { left = S.left source.old; later = S.left source.new; read_faults = S.faults source.old; read_faults_later = S.faults source.new; held = K.held sink.old; held_later = K.held sink.new; write_faults = K.faults sink.old; write_faults_later = K.faults sink.new }) }
     ensures read_counted { S.faults source.old ≤ S.faults source.new }
     ensures write_counted { K.faults sink.old ≤ K.faults sink.new }
     ensures asked { S.calls source.new ≤ S.calls source.old + most_bytes + 2 }
 {
-    status(run_turns(alloc, listed, source, sink, book), BAD_BUNDLE)
+    status(run_turns(alloc, turns, source, sink, book), BAD_BUNDLE)
 }
 
 fn run_turns<S: Source, K: Sink>(
     alloc: Global,
-    listed: bool,
+    turns: &[Turn],
     source: &mut S,
     sink: &mut K,
     book: &mut Book,
 ) -> Answer
-    ensures cause { Cause (spec.Runs listed book.new) (spec.Refuses listed) result (record { left = S.left source.old; later = S.left source.new; read_faults = S.faults source.old; read_faults_later = S.faults source.new; held = K.held sink.old; held_later = K.held sink.new; write_faults = K.faults sink.old; write_faults_later = K.faults sink.new }) }
+    ensures cause { Cause (spec.Runs turns.now book.new) spec.Refuses result (record { left = S.left source.old; later = S.left source.new; read_faults = S.faults source.old; read_faults_later = S.faults source.new; held = K.held sink.old; held_later = K.held sink.new; write_faults = K.faults sink.old; write_faults_later = K.faults sink.new }) }
     ensures read_counted { S.faults source.old ≤ S.faults source.new }
     ensures write_counted { K.faults sink.old ≤ K.faults sink.new }
     ensures asked { S.calls source.new ≤ S.calls source.old + most_bytes + 2 }
@@ -211,7 +167,7 @@ fn run_turns<S: Source, K: Sink>(
         Ok(bytes) => bytes,
         Err(answer) => return answer,
     };
-    match made(alloc, listed, &bytes, book) {
+    match made(alloc, turns, &bytes, book) {
         Ok(made) => output(sink, &made),
         Err(_) => Answer::NoMemory,
     }

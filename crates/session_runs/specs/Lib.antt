@@ -2,4 +2,3 @@ pub mod Blocks
 pub mod Laws
 pub mod Sessions
 pub mod Replies
-pub mod Calls

@@ -25,8 +25,8 @@ fn told(outcome: &Outcome, ops: u64) -> u64
     }
 }
 
-/// The reply of a request, with the number of steps that it tells.
-pub fn told_reply(reply: Reply) -> Reply
+// The reply of a request, with the number of steps that it tells.
+fn told_reply(reply: Reply) -> Reply
     ensures { result ≡ record reply { ops = told_of reply.outcome reply.ops } }
 {
     let mut reply = reply;

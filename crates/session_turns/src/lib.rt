@@ -1,5 +1,5 @@
 //! A session of a tenant turn by turn on a shard: one of its requests begins, or the attempt of the open one goes on to its next
-//! pause, which is served (docs/platform.md, "Turns"). No program makes a turn yet.
+//! pause, which is served (docs/platform.md, "Turns").
 #![tactic(auto)]
 
 mod attempt;

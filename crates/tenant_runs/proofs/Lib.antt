@@ -1,4 +1,6 @@
+mod Deals
+mod Ends
+mod Numbers
 mod Parts
+mod Plans
 mod Prefixes
-mod Sessions
-mod Trails

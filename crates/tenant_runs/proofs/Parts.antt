@@ -21,8 +21,8 @@ use Rattle.tenant_requests.specs.declared.open.OpenSession.{OpenSession}
 use Rattle.tenant_requests.specs.Requests.{AreOpen, AreOpenSessions, AreClosed, AreClosedSessions}
 use Rattle.tenant_sessions.specs.Users.{AreUsers, names, user_of}
 use Rattle.type_names.specs.declared.fault.TreeFault.{TreeFault}
-use Rattle.tenant_runs.specs.Laws.{PartsAreSound}
-use Rattle.tenant_runs.specs.Tenants.{HasNumbers, HaveNumbers}
+use Rattle.tenant_runs.specs.Laws.{PartsHaveRoom}
+use Rattle.attempt_run.specs.Plans.{HasNumbers, HaveNumbers}
 use Rattle.tenant_runs.proofs.Prefixes.{sound}
 
 cons_nil : {A : Type 0} {x : A} {xs : List A} → x ∷ xs ≡ [] → ⊥
@@ -109,8 +109,8 @@ numbered ts es e h =
     let same = h.1 in
     record { few = omega (arith, e, many, same); each = h.0 }
 
-pub parts_are_sound : PartsAreSound
-parts_are_sound plan part p bounds = (
+pub parts_have_room : PartsHaveRoom
+parts_have_room plan part p bounds = (
   sound plan.schema part.schema p.deployed bounds.users,
   numbered part.sessions plan.sessions bounds.sessions
       (each part.schema plan.schema.users p.users plan.sessions [] p.rest.opened p.rest.blocks _ part.sessions bounds.users p.are_users p.rest.are_open p.rest.are_closed bounds.requests),

@@ -1,29 +1,43 @@
--- How far the sessions of a tenant are, where one runs behind the other.
-use Rattle.std.specs.Prelude.{◌≡◌, ℕ, zero, suc, List, [], ◌∷◌, length, None, Some}
-use Rattle.apex_schema.specs.declared.schema.Schema.{Schema}
-use Rattle.legal_trails.specs.Legal.{Session as State}
-use Rattle.row_locks.specs.Locks.{holder_of}
-use Rattle.session_runs.specs.Calls.{IsRunSoFar, closed_session}
+-- The tenants of a run on their way.
+use Rattle.std.specs.Prelude.{◌≡◌, ℕ, suc, List, [], ◌∷◌, map, slice_set, Option, None, Some}
+use Rattle.apex_requests.specs.declared.reply.Event.{Event}
+use Rattle.attempt_run.specs.declared.plan.Plan.{Plan}
 use Rattle.stack_code.specs.Means.{Means}
 use Rattle.stack_code.specs.declared.image.Image.{Image}
 use Rattle.tenant_parts.specs.declared.part.TenantPart.{TenantPart}
-use Rattle.tenant_parts.specs.declared.session.Session.{Session}
-use Rattle.tenant_shards.specs.Shards.{Shared}
-use Rattle.tenant_shards.specs.Tenants.{part_at, sessions_at}
+use Rattle.tenant_shards.specs.declared.finish.Finished.{Finished}
 
--- the first so many sessions have closed all their requests, and the others none
-abbrev pub ran_first : ℕ → List Session → List State
-ran_first n [] = []
-ran_first zero (s ∷ ss) = closed_session 0 ∷ ran_first zero ss
-ran_first (suc n) (s ∷ ss) = closed_session (length s.requests) ∷ ran_first n ss
+-- the image means the tenant's program, and the plan has its schema and its sessions
+pub record IsPlanned (part : TenantPart) (plan : Plan) : Type 0 where
+  pub means : Means part.program plan.image
+  pub schema : plan.schema ≡ part.schema
+  pub sessions : plan.sessions ≡ part.sessions
 
--- so far are the sessions of tenant 0, which has this schema and whose program the image means; no row is held
-pub record HaveRun (schema : Schema) (image : Image) (sessions : List Session) (n : ℕ) (shard : Shared) : Type 0 where
-  pub part : TenantPart
-  pub is_part : part_at 0 shard.tenants ≡ Some part
-  pub schema_is : part.schema ≡ schema
-  pub sessions_are : part.sessions ≡ sessions
-  pub means : Means part.program image
-  pub ran : sessions_at 0 shard.tenants ≡ ran_first n sessions
-  pub free : (id : List ℕ) → holder_of 0 shard.locks id ≡ None
-  pub so_far : IsRunSoFar image part 0 shard
+abbrev pub IsPlannedBy : Option TenantPart → Option Plan → Type 0
+IsPlannedBy None None = Unit {0}
+IsPlannedBy (Some part) (Some plan) = IsPlanned part plan
+IsPlannedBy None (Some plan) = ⊥
+IsPlannedBy (Some part) None = ⊥
+
+abbrev pub ArePlanned : List (Option TenantPart) → List (Option Plan) → Type 0
+ArePlanned [] plans = plans ≡ []
+ArePlanned (p ∷ ps) [] = ⊥
+ArePlanned (p ∷ ps) (plan ∷ plans) = IsPlannedBy p plan × ArePlanned ps plans
+
+-- those that are there, with their numbers
+abbrev pub numbered : ℕ → List (Option TenantPart) → List (ℕ × TenantPart)
+numbered t [] = []
+numbered t (None ∷ ps) = numbered (suc t) ps
+numbered t (Some p ∷ ps) = (t, p) ∷ numbered (suc t) ps
+
+abbrev pub image_in : Option Plan → Option Image
+image_in None = None
+image_in (Some plan) = Some plan.image
+
+abbrev pub images_in : List (Option Plan) → List (Option Image)
+images_in plans = map image_in plans
+
+-- each tenant that the shard left has its trail
+abbrev pub dealt : List (List Event) → List Finished → List (List Event)
+dealt trails [] = trails
+dealt trails (f ∷ left) = dealt (slice_set trails f.tenant f.trail) left

@@ -1,8 +1,10 @@
-//! A tenant of a bundle as it runs: its blocks compiled, its seed stored, the requests of its sessions made.
+//! The tenants of a bundle as they run, turn by turn on one shard: their programs compiled, their seeds stored, the requests of
+//! their sessions made.
 #![tactic(auto)]
 
 mod laws;
+mod planned;
 mod runs;
 
 pub use laws::laws_of_parts;
-pub use runs::{Ran, run_tenant};
+pub use runs::{Ran, run_tenants};

@@ -1,134 +1,121 @@
-// Tenants.
+// Tenants on a shard.
 
-ghost use Rattle.std.specs.Prelude.{◌≡◌, ◌∷◌, [], length, IfOk, OnOk};
-ghost use Rattle.save_stages.specs.Does.{IsSound};
-ghost use Rattle.stack_code.specs.Means.{Means};
-ghost use Rattle.tenant_shards.specs.Shards.{AreOpened};
-ghost use Rattle.tenant_shards.specs.Tenants.{part_at, trail_in};
+ghost use Rattle.std.specs.Prelude.{◌≡◌, [], replicate, IfOk};
+ghost use Rattle.attempt_run.specs.Plans.{ArePlans};
+ghost use Rattle.tenant_shards.specs.Shards.{AreOpened, numbers};
 ghost use Rattle.tenant_runs.specs.Steps as steps;
 ghost use Rattle.tenant_runs.specs.Tenants as spec;
 
+use crate::planned::{images_of, plans_of};
 use apex_list::Items;
 use apex_num::NoMemory;
-use apex_requests::{Event, Request};
-use apex_schema::Schema;
-use compile_unit::compile;
-use program_means::laws_of_images;
-use session_runs::run_session;
+use apex_requests::Event;
+use attempt_run::{Plan, run_turns};
+use legal_trails::laws_of_turns;
 use stack_code::Image;
 use std::alloc::Global;
-use tenant_parts::{Session, TenantPart};
+use std::mem::replace;
+use tenant_parts::TenantPart;
 use tenant_shards::{Finished, Shard};
+use turn_lists::Turn;
 
-/// What a tenant came to.
+/// What the tenants of a run came to.
 #[derive(Drop)]
 pub struct Ran {
-    /// The compiled code of its program.
-    pub image: Image,
-    /// What its sessions did.
-    pub trail: Items<Event>,
+    /// The compiled code of each tenant's program; none where the tenant isn't deployed.
+    pub images: Items<Option<Image>>,
+    /// What the sessions of each tenant did.
+    pub trails: Items<Items<Event>>,
 }
 
-fn copied(alloc: Global, requests: &[Request]) -> Result<Items<Request>, NoMemory>
-    ensures { IfOk result (λ copies. copies ≡ requests.now) }
+// The tenants that are deployed, with their numbers.
+fn numbered(
+    alloc: Global,
+    parts: Items<Option<TenantPart>>,
+) -> Result<Vec<(usize, TenantPart)>, NoMemory>
+    ensures { IfOk result (λ all. all.items ≡ steps.numbered 0 parts) }
 {
-    let mut copies = Items::new(alloc);
-    'requests: for request in requests {
-        copies.push(request.copy()?)?;
+    let mut parts = parts.into_vec();
+    let mut all = Vec::new(alloc);
+    'tenants: for t in 0..parts.len() {
+        if let Some(part) = replace(&mut parts[t], None) {
+            all.push((t, part))?;
+        }
     }
-    Ok(copies)
+    Ok(all)
 }
 
-fn all_copied(alloc: Global, sessions: &[Session]) -> Result<Items<Session>, NoMemory>
-    ensures { IfOk result (λ copies. copies ≡ sessions.now) }
-{
-    let mut copies = Items::new(alloc);
-    'sessions: for session in sessions {
-        let requests = copied(alloc, session.requests.as_slice())?;
-        copies.push(Session { requests })?;
-    }
-    Ok(copies)
-}
-
-// A shard with this tenant alone, as tenant 0.
-fn alone(alloc: Global, part: TenantPart) -> Result<Shard, NoMemory>
-    ensures order { IfOk result (λ shard. shard.order ≡ 0 ∷ []) }
-    ensures opened { IfOk result (λ shard. AreOpened shard ((0, part) ∷ [])) }
+// A shard that has them.
+fn opened(alloc: Global, parts: Items<Option<TenantPart>>) -> Result<Shard, NoMemory>
+    ensures order { IfOk result (λ shard. shard.order ≡ numbers (steps.numbered 0 parts)) }
+    ensures opened { IfOk result (λ shard. AreOpened shard (steps.numbered 0 parts)) }
     ensures locks { IfOk result (λ shard. shard.locks ≡ []) }
     ensures entries { IfOk result (λ shard. shard.entries ≡ []) }
 {
-    let mut parts = Vec::new(alloc);
-    parts.push((0, part))?;
-    Shard::open(alloc, parts)
+    let all = numbered(alloc, parts)?;
+    Shard::open(alloc, all)
 }
 
-// The sessions run, one behind the other.
-fn run_all(
-    alloc: Global,
-    schema: &Schema,
-    image: &Image,
-    sessions: &[Session],
-    shard: &mut Shard,
-) -> Result<(), NoMemory>
-    requires sound { IsSound schema.now }
-    requires numbers { spec.HaveNumbers sessions.now }
-    requires new { steps.HaveRun schema.now image.now sessions.now 0 shard.old }
-    ensures ran { OnOk result (steps.HaveRun schema.now image.now sessions.now (length sessions.now) shard.new) }
-    ensures part { part_at 0 shard.new.tenants ≡ part_at 0 shard.old.tenants }
-    ensures order { shard.new.order ≡ shard.old.order }
+// So many trails with no events.
+fn empty(alloc: Global, count: usize) -> Result<Items<Items<Event>>, NoMemory>
+    ensures { IfOk result (λ trails. trails ≡ replicate count []) }
 {
-    'sessions: for s in 0..sessions.len() {
-        let session = &sessions[s];
-        let requests = session.requests.as_slice();
-        run_session(alloc, schema, image, requests, shard, 0, s as u32)?;
+    let mut trails = Items::new(alloc);
+    'tenants: for _ in 0..count {
+        trails.push(Items::new(alloc))?;
     }
-    Ok(())
+    Ok(trails)
 }
 
-// The trail of a shard's only tenant.
-fn trail_alone(shard: Shard) -> Result<Items<Event>, NoMemory>
-    requires { shard.order ≡ 0 ∷ [] }
-    ensures { IfOk result (λ trail. trail ≡ trail_in 0 shard.entries) }
-{
-    let mut all = shard.finish()?;
-    match all.pop() {
-        Some(Finished { trail, .. }) => Ok(trail),
-        None => unreachable!(),
-    }
-}
-
-// The trail of a tenant that runs alone, with its schema and its sessions.
-fn trail_of(
+// The trails of so many tenants, of which the shard left those that are deployed.
+fn dealt(
     alloc: Global,
-    schema: &Schema,
-    image: &Image,
-    sessions: &[Session],
-    part: TenantPart,
-) -> Result<Items<Event>, NoMemory>
-    requires sound { IsSound schema.now }
-    requires numbers { spec.HaveNumbers sessions.now }
-    requires schema { part.schema ≡ schema.now }
-    requires sessions { part.sessions ≡ sessions.now }
-    requires means { Means part.program image.now }
-    ensures { IfOk result (spec.IsRan part image.now) }
+    count: usize,
+    left: Items<Finished>,
+) -> Result<Items<Items<Event>>, NoMemory>
+    ensures { IfOk result (λ trails. trails ≡ steps.dealt (replicate count []) left) }
 {
-    let mut shard = alone(alloc, part)?;
-    run_all(alloc, schema, image, sessions, &mut shard)?;
-    trail_alone(shard)
+    let mut trails = empty(alloc, count)?;
+    'left: for finished in left.into_vec() {
+        let Finished { tenant, trail, .. } = finished;
+        if tenant < trails.len() {
+            trails.set(tenant, trail);
+        }
+    }
+    Ok(trails)
 }
 
-/// Compiles the program of a tenant, puts its seed into a shard of its own, and runs there the requests of its sessions, one
-/// session behind the other, each from its first request to its last. A save is refused as not built, and so is a block where it
-/// comes to a form that isn't.
-pub fn run_tenant(alloc: Global, part: TenantPart) -> Result<Ran, NoMemory>
-    requires sound { IsSound part.schema }
-    requires numbers { spec.HaveNumbers part.sessions }
-    ensures { IfOk result (λ ran. spec.IsRan part ran.image ran.trail) }
+// The trails of tenants that run on one shard, with these plans.
+fn trails_of(
+    alloc: Global,
+    plans: &[Option<Plan>],
+    parts: Items<Option<TenantPart>>,
+    turns: &[Turn],
+) -> Result<Items<Items<Event>>, NoMemory>
+    requires plans { ArePlans plans.now }
+    requires planned { steps.ArePlanned parts plans.now }
+    ensures { IfOk result (λ trails. spec.AreRan parts turns.now (steps.images_in plans.now) trails) }
 {
-    laws_of_images();
-    let image = compile(alloc, &part.program)?;
-    let schema = part.schema.copy()?;
-    let sessions = all_copied(alloc, part.sessions.as_slice())?;
-    let trail = trail_of(alloc, &schema, &image, sessions.as_slice(), part)?;
-    Ok(Ran { image, trail })
+    laws_of_turns();
+    let mut shard = opened(alloc, parts)?;
+    run_turns(alloc, &mut shard, plans, turns)?;
+    dealt(alloc, plans.len(), shard.finish()?)
+}
+
+/// Runs tenants turn by turn on one shard: their parts in the order of the bundle, none where one isn't deployed. The program of
+/// each is compiled, and its seed stored. The turns of the list are made one behind the other, each by the session that it names
+/// where that has a request that isn't closed, and else by the first such session; behind the list sessions run to their ends, the
+/// first one first. A save is refused as not built, and so is a block where it comes to a form that isn't.
+pub fn run_tenants(
+    alloc: Global,
+    parts: Items<Option<TenantPart>>,
+    turns: &[Turn],
+) -> Result<Ran, NoMemory>
+    requires { spec.AllHaveRoom parts }
+    ensures { IfOk result (λ ran. spec.AreRan parts turns.now ran.images ran.trails) }
+{
+    let plans = plans_of(alloc, parts.as_slice())?;
+    let trails = trails_of(alloc, &plans, parts, turns)?;
+    let images = images_of(alloc, plans)?;
+    Ok(Ran { images, trails })
 }

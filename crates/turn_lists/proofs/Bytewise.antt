@@ -1,6 +1,6 @@
 -- What is read of a list byte by byte is what it says.
 use Rattle.std.proofs.Common.{get_or, drop, length, Result, Ok, Err, map, suc, zero, ◌≡◌, ◌<◌, ◌≤◌, ◌⊎◌, inl, inr, refl, sym, ap, subst, ◌∙◌, ℕ, ◌+◌, ◌*◌, ◌-◌, ◌/◌, ◌%◌, ◌&&◌, cond, eqb, Bool, true, false, List, [], ◌∷◌, ◌++◌, append_assoc, append-nil, Option, None, Some, arith}
-use Rattle.std.specs.Prelude.{MatchResult, bytes_eq, decimal, nat_lt, nat_le, codes}
+use Rattle.std.specs.Prelude.{MatchBool, MatchResult, bytes_eq, decimal, nat_lt, nat_le, codes}
 use Rattle.std.specs.Char.{is_ascii_digit}
 use Rattle.std.proofs.lemmas.Bool.{and_parts, and_from, and_right, leb-true, le-leb, ltb-true, lt-ltb, eqb-true}
 use Rattle.std.proofs.lemmas.Fmt.{decimal_by_steps, decimal_digit, decimal_step}
@@ -10,8 +10,8 @@ use Rattle.turn_lists.specs.declared.fault.TurnsFault.TheVariants.{NotTurns, NoM
 use Rattle.turn_lists.specs.declared.list.At.{At}
 use Rattle.turn_lists.specs.declared.list.At.TheVariants.{Tenant, TenantNumber, Session, SessionNumber, Nowhere}
 use Rattle.turn_lists.specs.declared.turn.Turn.{Turn}
-use Rattle.turn_lists.specs.Lists.{AreTurns, IsCommand, IsNone, IsTurn, Lists, behind_text, list_text, most, turn_text}
-use Rattle.turn_lists.specs.Reading.{all_ended, ended, first_digit, more_digits, next, or_at, reads, turn_at}
+use Rattle.turn_lists.specs.Lists.{AreTurns, IsCommand, IsNone, IsTurn, Lists, ListsTurns, behind_text, list_text, most, turn_text}
+use Rattle.turn_lists.specs.Reading.{IsList, IsNoList, all_ended, ended, first_digit, more_digits, next, or_at, reads, turn_at}
 
 some_is : {A : Type 0} {a b : A} → Some a ≡ Some b → a ≡ b
 some_is e = cc
@@ -21,7 +21,7 @@ some_is e = cc
 digit_of : (b : ℕ) → is_ascii_digit b ≡ true → (48 ≤ b) × (b ≤ 57)
 digit_of b e = let p = and_parts (nat_le 48 b) (nat_le b 57) e in (leb-true 48 b p.0, leb-true b 57 p.1)
 
-is_digit : (d : ℕ) → d < 10 → is_ascii_digit (48 + d) ≡ true
+pub is_digit : (d : ℕ) → d < 10 → is_ascii_digit (48 + d) ≡ true
 is_digit d h = and_from (nat_le 48 (48 + d)) (nat_le (48 + d) 57) (le-leb 48 (48 + d) (omega arith)) (le-leb (48 + d) 57 (omega (arith, h)))
 
 first_is : (d : ℕ) → d < 10 → first_digit (48 + d) ≡ Some d
@@ -32,7 +32,7 @@ more_is n d low high h =
     ap (λ b. cond b (Some (n * 10 + (48 + d - 48))) None) (and_from (nat_lt 0 n) (nat_lt n 100000000 && is_ascii_digit (48 + d)) (lt-ltb 0 n low) (and_from (nat_lt n 100000000) (is_ascii_digit (48 + d)) (lt-ltb n 100000000 high) (is_digit d h)))
     ∙ ap (λ m. Some (n * 10 + m)) (omega arith)
 
-none_more : (n b : ℕ) → is_ascii_digit b ≡ false → more_digits n b ≡ None
+pub none_more : (n b : ℕ) → is_ascii_digit b ≡ false → more_digits n b ≡ None
 none_more n b e = ap (λ c. cond c (Some (n * 10 + (b - 48))) None) (and_right (nat_lt 0 n) (nat_lt n 100000000 && is_ascii_digit b) (and_right (nat_lt n 100000000) (is_ascii_digit b) e))
 
 -- a first digit is its number
@@ -61,7 +61,7 @@ more_from n b m le e = by (nat_lt 0 n && (nat_lt n 100000000 && is_ascii_digit b
       let last : 48 + m % 10 ≡ b = omega (arith, is, w.0, w.1) in
       (omega (arith, is, w.0, w.1, high), decimal_step m (omega (arith, is, low)) (omega (arith, is, w.0, w.1, high)) ∙ ap (λ k. decimal k ++ (48 + m % 10) ∷ []) front ∙ ap (λ k. decimal n ++ k ∷ []) last, q.1)
 
-comma_no_digit : (b : ℕ) → is_ascii_digit b ≡ true → eqb b 44 ≡ false
+pub comma_no_digit : (b : ℕ) → is_ascii_digit b ≡ true → eqb b 44 ≡ false
 comma_no_digit b e = by (eqb b 44) refl where
   by : (c : Bool) → eqb b 44 ≡ c → eqb b 44 ≡ false
   by false d = d
@@ -69,7 +69,7 @@ comma_no_digit b e = by (eqb b 44) refl where
 
 -- ---- what a list says is read so
 
-reads_append : (at : At) (u v : List ℕ) → reads at (u ++ v) ≡ reads (reads at u) v
+pub reads_append : (at : At) (u v : List ℕ) → reads at (u ++ v) ≡ reads (reads at u) v
 reads_append at [] v = refl
 reads_append at (b ∷ u) v = reads_append (next at b) u v
 
@@ -84,14 +84,14 @@ module _ (wrap : ℕ → At) (start : At) (first : (d : ℕ) → d < 10 → next
       ∙ ap wrap (omega arith))
       n (omega (arith, le)) le
 
-tenant_read : (n : ℕ) → n ≤ most → reads Tenant (decimal n) ≡ TenantNumber n
+pub tenant_read : (n : ℕ) → n ≤ most → reads Tenant (decimal n) ≡ TenantNumber n
 tenant_read n le = number_read TenantNumber Tenant (λ d h. ap (λ o. or_at TenantNumber o Nowhere) (first_is d h)) (λ n d low high h. ap (λ o. or_at TenantNumber o (cond (eqb (48 + d) 46) (Session n) Nowhere)) (more_is n d low high h)) n le
 
 session_read : (t n : ℕ) → n ≤ most → reads (Session t) (decimal n) ≡ SessionNumber t n
 session_read t n le =
     number_read (SessionNumber t) (Session t) (λ d h. ap (λ o. or_at (SessionNumber t) o Nowhere) (first_is d h)) (λ n d low high h. ap (λ o. or_at (SessionNumber t) o (cond (eqb (48 + d) 44) Tenant Nowhere)) (more_is n d low high h)) n le
 
-turn_read : (t : Turn) → IsTurn t → reads Tenant (turn_text t) ≡ SessionNumber t.tenant t.session
+pub turn_read : (t : Turn) → IsTurn t → reads Tenant (turn_text t) ≡ SessionNumber t.tenant t.session
 turn_read t h =
     reads_append Tenant (decimal t.tenant) (46 ∷ decimal t.session)
     ∙ ap (λ at. reads at (46 ∷ decimal t.session)) (tenant_read t.tenant h.tenant)
@@ -233,9 +233,21 @@ module _ (list : List ℕ) (at : At) (i : ℕ) (le : length list ≤ i) (same : 
   pub read_none : ((t n : ℕ) → at ≡ SessionNumber t n → ⊥) → (turns : List Turn) → (turns ≡ [] → ⊥) → Lists list turns → ⊥
   read_none none turns some lists = let e = listed_ends list turns some lists in none e.0 e.1 (at_end ∙ e.2)
 
+  pub word_listed : (t n : ℕ) → at ≡ SessionNumber t n → IsList list
+  word_listed t n is = (all_ended Tenant list ++ record { tenant = t; session = n } ∷ [], said_list list t n (all_ended Tenant list ++ record { tenant = t; session = n } ∷ []) (sym at_end ∙ is) refl)
+
 -- ---- words
 
-none_listed : (turns : List Turn) → list_text turns ≡ codes "-" → AreTurns turns → turns ≡ []
+-- a word that is tested is the list of two words
+pub two_tested : {X : Type 0} (f : X → List ℕ) (words : List X) (w v : X) → 2 ≤ length words → length words < 3 → w ≡ get_or words 0 w → v ≡ get_or words 1 v → (list : List ℕ) → list ≡ f v → f w ≡ codes "turns" → (b : Bool) →
+    MatchBool b (IsList list) (IsNoList list) → MatchBool b (ListsTurns (map f words)) (ListsTurns (map f words) → ⊥)
+two_tested f [] w v low high x y list is turns b h = absurd (omega (arith, low))
+two_tested f (q ∷ []) w v low high x y list is turns b h = absurd (omega (arith, low))
+two_tested f (q ∷ r ∷ z ∷ ws) w v low high x y list is turns b h = absurd (omega (arith, high))
+two_tested f (q ∷ r ∷ []) w v low high x y list is turns true h = (h.0, (ap f (sym x) ∙ turns, subst (λ l. Lists l h.0) (is ∙ ap f y) h.1))
+two_tested f (q ∷ r ∷ []) w v low high x y list is turns false h = λ s. h s.0 (subst (λ l. Lists l s.0) (sym (is ∙ ap f y)) s.1.1)
+
+pub none_listed : (turns : List Turn) → list_text turns ≡ codes "-" → AreTurns turns → turns ≡ []
 none_listed [] e h = refl
 none_listed (t ∷ ts) e h = absurd (no_dash (subst IsEnd (ap (λ bs. reads Tenant bs) e) (pairs_read t ts h.0 h.1))) where
   no_dash : IsEnd Nowhere → ⊥

@@ -1,1 +1,2 @@
 mod Bytewise
+mod Only

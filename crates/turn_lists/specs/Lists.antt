@@ -41,6 +41,10 @@ IsCommand (w ∷ []) turns = ⊥
 IsCommand (w ∷ v ∷ []) turns = (w ≡ codes "turns") × Lists v turns
 IsCommand (w ∷ v ∷ u ∷ ws) turns = ⊥
 
+-- the words are a command that lists some turns or none
+abbrev pub ListsTurns : List (List ℕ) → Type 0
+ListsTurns words = (turns : List Turn) × IsCommand words turns
+
 -- a fault says that there are no such turns
 abbrev pub IsNone : (List Turn → Type 0) → TurnsFault → Type 0
 IsNone Says NotTurns = (turns : List Turn) → Says turns → ⊥

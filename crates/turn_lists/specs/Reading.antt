@@ -52,3 +52,13 @@ IsRead word turns = Lists word turns
 
 abbrev pub IsRefused : List ℕ → TurnsFault → Type 0
 IsRefused word fault = IsNone (λ turns. (turns ≡ [] → ⊥) × Lists word turns) fault
+
+-- a word is no such list
+abbrev pub AreNone : List ℕ → Type 0
+AreNone word = (turns : List Turn) → (turns ≡ [] → ⊥) → Lists word turns → ⊥
+
+abbrev pub IsList : List ℕ → Type 0
+IsList word = (turns : List Turn) × Lists word turns
+
+abbrev pub IsNoList : List ℕ → Type 0
+IsNoList word = (turns : List Turn) → Lists word turns → ⊥

@@ -3,9 +3,11 @@
 #![tactic(auto)]
 
 mod fault;
+mod laws;
 mod list;
 mod turn;
 
 pub use fault::TurnsFault;
-pub use list::read_turns;
+pub use laws::laws_of_lists;
+pub use list::{lists_turns, read_turns};
 pub use turn::Turn;

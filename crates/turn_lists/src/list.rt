@@ -1,7 +1,7 @@
 // The reading of a list of turns, byte by byte.
 
-ghost use Rattle.std.specs.Prelude.{◌≡◌, ◌++◌, ◌∷◌, [], map, string_bytes, IfOk, MatchResult, OnOk};
-ghost use Rattle.turn_lists.specs.Lists.{IsCommand, IsNone, Lists};
+ghost use Rattle.std.specs.Prelude.{◌≡◌, ◌++◌, ◌∷◌, [], map, string_bytes, IfOk, MatchBool, MatchResult, OnOk};
+ghost use Rattle.turn_lists.specs.Lists.{IsCommand, IsNone, Lists, ListsTurns};
 ghost use Rattle.turn_lists.specs.Reading as spec;
 
 use crate::fault::TurnsFault;
@@ -123,6 +123,37 @@ fn read_pairs(alloc: Global, list: &[u8]) -> Result<Vec<Turn>, TurnsFault>
             Ok(turns)
         }
         _ => Err(TurnsFault::NotTurns),
+    }
+}
+
+// Whether a word is a list that isn't `-`.
+fn are_pairs(list: &[u8]) -> bool
+    ensures { MatchBool result (spec.IsList list.now) (spec.AreNone list.now) }
+{
+    let mut at = At::Tenant;
+    for b in list {
+        at = next(at, *b);
+    }
+    match at {
+        At::SessionNumber(..) => true,
+        _ => false,
+    }
+}
+
+fn is_list(list: &[u8]) -> bool
+    ensures { MatchBool result (spec.IsList list.now) (spec.IsNoList list.now) }
+{
+    list == b"-".as_slice() || are_pairs(list)
+}
+
+/// Whether words are a command that runs turns: `turns` and a list, which is `-` or pairs `T.S` with commas between. It takes no
+/// memory.
+pub fn lists_turns(words: &[String]) -> bool
+    ensures { MatchBool result (ListsTurns (map string_bytes words.now)) (ListsTurns (map string_bytes words.now) → ⊥) }
+{
+    match words {
+        [word, list] => word.as_str() == "turns" && is_list(list.as_bytes()),
+        _ => false,
     }
 }
 

@@ -1,6 +1,6 @@
-use Rattle.std.proofs.Common.{sym, subst, ◌∙◌, map}
+use Rattle.std.proofs.Common.{sym, subst}
 use Rattle.legal_trails.specs.Served.{first_stage}
-use Rattle.attempt_run.specs.Stages.{ArePlaced, first_in}
+use Rattle.attempt_run.specs.Stages.{ArePlaced}
 use Rattle.attempt_run.proofs.Beginning.{all_served, begins}
 use Rattle.attempt_run.proofs.turns.run_turns.Goals as goal
 
@@ -11,4 +11,7 @@ run_listed-requires-clause-placed c = (
 )
 
 pub returns : goal.returns
-returns c = all_served c.run_listed.result c.args.plans.now _ c.in_ok-all.all.items c.run_listed.new.all.items c.args.shard.now c.run_listed.new.shard c.in_ok-all.ensures c.run_listed.ensures
+returns c = record {
+  served = all_served c.run_listed.result c.args.plans.now _ c.in_ok-all.all.items c.run_listed.new.all.items c.args.shard.now c.run_listed.new.shard c.in_ok-all.ensures c.run_listed.ensures.serves;
+  same = c.run_listed.ensures.same;
+}

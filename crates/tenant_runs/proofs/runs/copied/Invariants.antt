@@ -1,5 +1,0 @@
-use Rattle.std.proofs.Common.{◌≡◌, take}
-use Rattle.tenant_runs.proofs.runs.copied.Given as goal
-
-abbrev pub invariant-requests : goal.invariant-requests
-invariant-requests l = l.copies ≡ take l.request-index l.requests
