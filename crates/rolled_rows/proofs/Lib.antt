@@ -1,0 +1,5 @@
+mod Places
+mod Cells
+mod Grouping
+mod LawSteps
+mod Samples

@@ -1,0 +1,3 @@
+pub mod RollUps
+pub mod Groups
+pub mod Laws
