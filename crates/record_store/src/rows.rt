@@ -5,14 +5,15 @@ ghost use Rattle.std.specs.BTreeMap.{is_at};
 ghost use Rattle.std.specs.List.Sorted.{IsStrictlySortedBy};
 ghost use Rattle.std.specs.Map.{keys_of, set_value};
 ghost use Rattle.row_meaning.specs.Cells.{bytes_cmp};
-ghost use Rattle.row_meaning.specs.Conds.{holds_of};
+ghost use Rattle.row_meaning.specs.Conds.{own_value};
+ghost use Rattle.row_conditions.specs.Prepared.{prepared_holds};
 ghost use Rattle.row_meaning.specs.Stores.{answer, put, taken, without};
 ghost use Rattle.record_store.specs.Places.{HasPlace, HasRoom, Stay, answer_to, rows_of};
 
 use apex_list::Items;
 use apex_num::{Id, NoMemory};
 use apex_rows::{Answer, Cond, Question, Row, Writes};
-use row_conditions::holds;
+use row_conditions::{PreparedCond, prepare};
 use std::alloc::{AllocError, Global};
 use std::collections::BTreeMap;
 use std::marker::Model;
@@ -37,13 +38,13 @@ impl Model for TenantRows {
 }
 
 // Whether a row is one of an object for which a condition holds.
-fn is_answer(alloc: Global, object: usize, cond: &Cond, row: &Row) -> Result<bool, NoMemory>
-    ensures { IfOk result (λ found. found ≡ (eqb row.now.object object && holds_of cond.now row.now)) }
+fn is_answer(alloc: Global, object: usize, cond: &PreparedCond, row: &Row) -> Result<bool, NoMemory>
+    ensures { IfOk result (λ found. found ≡ (eqb row.now.object object && prepared_holds (own_value row.now) cond.now)) }
 {
     if row.object != object {
         return Ok(false);
     }
-    holds(alloc, cond, row)
+    cond.holds(alloc, row)
 }
 
 // Writes a row into the place of an Id, where there is one.
@@ -71,10 +72,11 @@ impl TenantRows {
     fn read(&self, object: usize, cond: &Cond) -> Result<Items<Row>, NoMemory>
         ensures { IfOk result (λ rows. rows ≡ answer (rows_of self.now) object cond.now) }
     {
+        let prepared = prepare(self.alloc, &[], cond)?;
         let mut rows = Items::new(self.alloc);
         for (_, slot) in &self.places {
             if let Some(row) = slot {
-                if is_answer(self.alloc, object, cond, row)? {
+                if is_answer(self.alloc, object, &prepared, row)? {
                     rows.push(row.copy()?)?;
                 }
             }

@@ -1,10 +1,13 @@
 // How two values stand.
 
-ghost use Rattle.std.specs.Prelude.{◌≡◌};
+ghost use Rattle.std.specs.Prelude.{◌≡◌, IfOk};
 ghost use Rattle.apex_text.specs.Fold.{folded};
-ghost use Rattle.row_meaning.specs.Cells.{bytes_cmp, cell_cmp, is_null as null, same_cell};
+ghost use Rattle.row_meaning.specs.Cells.{bytes_cmp, cell_cmp, compares as compared, is_null as null, same_cell};
 
+use crate::like::cell_like;
 use apex_num::Cell;
+use apex_rows::CondOp;
+use std::alloc::{AllocError, Global};
 use std::cmp::Ordering;
 
 // The order of two texts by their bytes, without case.
@@ -60,4 +63,19 @@ pub fn is_same(a: &Cell, b: &Cell) -> bool
     ensures { result ≡ same_cell a.now b.now }
 {
     (is_null(a) && is_null(b)) || compare(a, b) == Some(Ordering::Equal)
+}
+
+/// Whether two values stand so.
+pub fn compares(alloc: Global, op: CondOp, a: &Cell, b: &Cell) -> Result<bool, AllocError>
+    ensures { IfOk result (λ found. found ≡ compared op a.now b.now) }
+{
+    Ok(match op {
+        CondOp::Equal => is_same(a, b),
+        CondOp::Differs => !is_same(a, b),
+        CondOp::Less => compare(a, b) == Some(Ordering::Less),
+        CondOp::AtMost => compare(a, b).is_some_and(|order| order != Ordering::Greater),
+        CondOp::More => compare(a, b) == Some(Ordering::Greater),
+        CondOp::AtLeast => compare(a, b).is_some_and(|order| order != Ordering::Less),
+        CondOp::Like => return cell_like(alloc, a, b),
+    })
 }
