@@ -1,5 +1,5 @@
 -- The rows of a seed as rows of a store.
-use Rattle.std.proofs.Common.{arith, ◌≡◌, ◌||◌, ◌+◌, cond, ℕ, zero, suc, Bool, true, false, List, [], ◌∷◌, ◌++◌, length, map, slice_get, bytes_eq, Option, None, Some, option_map, refl, sym, ap, ◌∙◌, subst}
+use Rattle.std.proofs.Common.{arith, ◌≡◌, ◌||◌, ◌+◌, cond, ℕ, zero, suc, Bool, true, false, List, [], ◌∷◌, ◌++◌, length, map, slice_get, bytes_eq, Option, None, Some, option_map, refl, sym, ap, ap₂, ◌∙◌, subst}
 use Rattle.std.specs.List.{IsDistinct, AllByRecursion}
 use Rattle.std.proofs.lemmas.List.{map-append}
 use Rattle.std.proofs.lemmas.List.Folds.{list_any-append}
@@ -28,7 +28,8 @@ use Rattle.row_cells.specs.Cells.{IsCell}
 use Rattle.row_cells.specs.Rows.{Known, Tells, naming}
 use Rattle.seed_rows.specs.Written.{Written as WrittenRow}
 use Rattle.seed_rows.specs.Words.{first_of, is_bad_id}
-use Rattle.seed_rows.specs.Seeds.{AreRows, IsSeed, IsSeedRow, object_at, or_default}
+use Rattle.rolled_rows.specs.Laws.{RowsStayRows}
+use Rattle.seed_rows.specs.Seeds.{AreRows, AreRolled, IsRolled, IsSeed, IsSeedRow, object_at, or_default}
 use Rattle.seed_rows.specs.Views.{ids_of}
 
 -- ---- Ids
@@ -74,8 +75,14 @@ module _ (schema : Schema) (all : List WrittenRow) where
   distinct before (w ∷ ws) [] h = absurd h
   distinct before (w ∷ ws) (row ∷ rows) (here, rest) = (after before row (ids_of rows) (apart (before ++ row ∷ []) ws rows rest), distinct (before ++ row ∷ []) ws rows rest)
 
+-- roll-ups leave the Ids
+same_ids : (schema : Schema) (all plain rows : List Row) → AreRolled schema all plain rows → ids_of rows ≡ ids_of plain
+same_ids schema all [] rows h = ap ids_of h
+same_ids schema all (p ∷ plain) [] h = absurd h
+same_ids schema all (p ∷ plain) (row ∷ rows) (here, rest) = ap₂ (λ i l. i ∷ l) here.id (same_ids schema all plain rows rest)
+
 pub ids_differ : (schema : Schema) (all : List WrittenRow) (rows : List Row) → IsSeed schema all rows → IsDistinct bytes_eq (ids_of rows)
-ids_differ schema all rows h = distinct schema all [] all rows h
+ids_differ schema all rows (plain, are, rolled) = subst (IsDistinct bytes_eq) (sym (same_ids schema plain plain rows rolled)) (distinct schema all [] all plain are)
 
 -- ---- cells
 
@@ -209,5 +216,16 @@ all_rows schema all valid before [] rows h = subst (AllRows schema) (sym h) tt
 all_rows schema all valid before (w ∷ ws) [] h = absurd h
 all_rows schema all valid before (w ∷ ws) (row ∷ rows) (here, rest) = (one_row schema all before w row valid here, all_rows schema all valid (before ++ row ∷ []) ws rows rest)
 
-pub rows_are_of_schema : (schema : Schema) (all : List WrittenRow) (rows : List Row) → IsValid schema → IsSeed schema all rows → AllRows schema rows
-rows_are_of_schema schema all rows valid h = all_rows schema all valid [] all rows h
+stays : (schema : Schema) (all : List Row) (plain row : Row) → RowsStayRows → IsSchemaRow schema plain → IsRolled schema all plain row → IsSchemaRow schema row
+stays schema all plain row law h r =
+    let eo : plain.object ≡ row.object = sym r.object in
+    let ei : plain.id ≡ row.id = sym r.id in
+    subst (IsSchemaRow schema) (λ i. record { object = eo i; id = ei i; cells = row.cells }) (law schema all plain row.cells h r.cells)
+
+all_stay : (schema : Schema) (all : List Row) → RowsStayRows → (plain rows : List Row) → AllRows schema plain → AreRolled schema all plain rows → AllRows schema rows
+all_stay schema all law [] rows h k = subst (AllRows schema) (sym k) tt
+all_stay schema all law (p ∷ plain) [] h k = absurd k
+all_stay schema all law (p ∷ plain) (row ∷ rows) h k = (stays schema all p row law h.0 k.0, all_stay schema all law plain rows h.1 k.1)
+
+pub rows_are_of_schema : RowsStayRows → (schema : Schema) (all : List WrittenRow) (rows : List Row) → IsValid schema → IsSeed schema all rows → AllRows schema rows
+rows_are_of_schema law schema all rows valid (plain, are, rolled) = all_stay schema plain law plain rows (all_rows schema all valid [] all plain are) rolled

@@ -2,3 +2,5 @@ mod Steps
 mod RowSteps
 mod SeedSteps
 mod LawSteps
+mod RollSteps
+mod Samples

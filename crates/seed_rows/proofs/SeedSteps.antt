@@ -10,7 +10,8 @@ use Rattle.seed_rows.specs.declared.row.RowEnd.{RowEnd}
 use Rattle.seed_rows.specs.declared.row.RowEnd.TheVariants as Ends
 use Rattle.seed_rows.specs.declared.written.WrittenRow.{WrittenRow}
 use Rattle.seed_rows.specs.Written.{Written}
-use Rattle.seed_rows.specs.Seeds.{AreRows, IsSeedRow, NoSeed, place_of_row}
+use Rattle.seed_rows.specs.Seeds.{AreRows, IsSeedRow, place_of_row}
+use Rattle.seed_rows.specs.Rolls.{NoRows}
 use Rattle.seed_rows.specs.Rows.{FaultAt, IsOnlySeedRow, NoSeedRow}
 use Rattle.seed_rows.specs.Views.{all_as_written, as_written}
 
@@ -70,7 +71,7 @@ module _ (schema : Schema) (ws : List WrittenRow) (i : ℕ) (w : WrittenRow) (ro
   whole : all_as_written ws ≡ all_as_written (take i ws) ++ as_written w ∷ all_as_written (drop (suc i) ws)
   whole = ap all_as_written (sym (take-append-drop i ws) ∙ ap (λ l. take i ws ++ l) (drop-cons ws i w lt ∙ ap (λ x. x ∷ drop (suc i) ws) (sym is))) ∙ map-append as_written (take i ws) (w ∷ drop (suc i) ws)
 
-  pub fault_at : (end : RowEnd) → NoSeedRow schema (all_as_written ws) rows (as_written w) end → (fault : SeedFault) → FaultAt (place_of_row schema (all_as_written (take i ws)) (as_written w)) end fault → NoSeed schema (all_as_written ws) fault
+  pub fault_at : (end : RowEnd) → NoSeedRow schema (all_as_written ws) rows (as_written w) end → (fault : SeedFault) → FaultAt (place_of_row schema (all_as_written (take i ws)) (as_written w)) end fault → NoRows schema (all_as_written ws) fault
   fault_at (Ends.Word word) n (Wrong fault) f = (
     record { front = all_as_written (take i ws); w = as_written w; rest = all_as_written (drop (suc i) ws); parts = whole; rows = rows; before = h.0; word = word; wrong = n.0; is = f },
     λ other k. no_more schema (all_as_written ws) (all_as_written (take i ws)) rows (as_written w) (all_as_written (drop (suc i) ws)) h n.1 other (subst (λ l. AreRows schema (all_as_written ws) [] l other) whole k),

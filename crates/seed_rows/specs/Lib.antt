@@ -5,3 +5,4 @@ pub mod Views
 pub mod Keys
 pub mod Laws
 pub mod Rows
+pub mod Rolls

@@ -1,6 +1,6 @@
 -- The rows of a seed (docs/formats.md, "Seeds").
-use Rattle.std.specs.Prelude.{◌≡◌, ◌⊎◌, ℕ, eqb, cond, List, [], ◌∷◌, ◌++◌, length, codes, slice_get, Option, None, Some}
-use Rattle.std.specs.List.{count_by}
+use Rattle.std.specs.Prelude.{◌≡◌, ◌⊎◌, ℕ, eqb, Bool, true, false, cond, List, [], ◌∷◌, ◌++◌, length, take, codes, slice_get, Option, None, Some}
+use Rattle.std.specs.List.{count_by, position_from}
 use Rattle.std.specs.Fmt.{decimal}
 use Rattle.apex_num.specs.declared.cell.Cell.{Cell}
 use Rattle.apex_num.specs.declared.cell.Cell.TheVariants.{Null, Id}
@@ -19,6 +19,9 @@ use Rattle.row_cells.specs.Rows.{Known, IsRow, IsRowFault, is_number}
 use Rattle.seed_rows.specs.declared.fault.SeedFault.{SeedFault}
 use Rattle.seed_rows.specs.declared.fault.SeedFault.TheVariants.{Wrong, NoMemory}
 use Rattle.record_words.specs.Names.{object_names}
+use Rattle.rolled_rows.specs.declared.rolled.Rolled.{Rolled}
+use Rattle.rolled_rows.specs.declared.rolled.Rolled.TheVariants.{Cells, OutOfRange}
+use Rattle.rolled_rows.specs.RollUps.{rolled_up}
 use Rattle.seed_rows.specs.Written.{Written, written}
 use Rattle.seed_rows.specs.Words.{word_of}
 
@@ -33,7 +36,7 @@ or_default n None = cond (eqb n 1) (Id (user_id 0)) Null
 abbrev pub object_at : Schema → Option ℕ → Option Object
 object_at schema n = bind n (slice_get schema.objects)
 
--- it is written as this row; `all` are all rows that are written, and `before` those that stand before it
+-- it is written as this row, whose roll-ups are null; `all` are all rows that are written, and `before` those that stand before it
 pub record IsSeedRow (schema : Schema) (all : List Written) (before : List Row) (w : Written) (row : Row) : Type 0 where
   pub object : w.object ≡ Some row.object
   pub o : Object
@@ -65,8 +68,35 @@ AreRows schema all before [] rows = rows ≡ []
 AreRows schema all before (w ∷ ws) [] = ⊥
 AreRows schema all before (w ∷ ws) (row ∷ rows) = IsSeedRow schema all before w row × AreRows schema all (before ++ row ∷ []) ws rows
 
+-- ---- roll-ups
+
+-- a row with what its roll-ups come to over all rows
+pub record IsRolled (schema : Schema) (all : List Row) (plain row : Row) : Type 0 where
+  pub object : row.object ≡ plain.object
+  pub id : row.id ≡ plain.id
+  pub cells : rolled_up schema all plain ≡ Cells row.cells
+
+-- rows, each with its roll-ups
+abbrev pub AreRolled : Schema → List Row → List Row → List Row → Type 0
+AreRolled schema all [] rows = rows ≡ []
+AreRolled schema all (p ∷ plain) [] = ⊥
+AreRolled schema all (p ∷ plain) (row ∷ rows) = IsRolled schema all p row × AreRolled schema all plain rows
+
+-- the rows that are written, each with its roll-ups over all of them
 abbrev pub IsSeed : Schema → List Written → List Row → Type 0
-IsSeed schema all rows = AreRows schema all [] all rows
+IsSeed schema all rows = (plain : List Row) × AreRows schema all [] all plain × AreRolled schema plain plain rows
+
+abbrev pub is_out : Rolled → Bool
+is_out (Cells cells) = false
+is_out (OutOfRange field) = true
+
+-- over all rows, a roll-up of this one is out of range
+abbrev pub has_out : Schema → List Row → Row → Bool
+has_out schema all row = is_out (rolled_up schema all row)
+
+-- the number of the first row that has one
+abbrev pub first_out : Schema → List Row → Option ℕ
+first_out schema rows = position_from (has_out schema rows) 0 rows
 
 -- ---- the first fault
 
@@ -84,7 +114,7 @@ abbrev pub place_of_row : Schema → List Written → Written → List ℕ
 place_of_row schema before w = codes "seed " ++ (name_or w.name (object_at schema w.object) ++ (codes " " ++ decimal (row_number before w.object)))
 
 -- the rows in front of one are rows, and it is the first that something is wrong with
-pub record IsFirstFault (schema : Schema) (all : List Written) (fault : Fault) : Type 0 where
+pub record IsFirstWrong (schema : Schema) (all : List Written) (fault : Fault) : Type 0 where
   pub front : List Written
   pub w : Written
   pub rest : List Written
@@ -94,6 +124,19 @@ pub record IsFirstFault (schema : Schema) (all : List Written) (fault : Fault) :
   pub word : FaultWord
   pub wrong : IsWrong schema all rows w word
   pub is : fault ≡ record { place = place_of_row schema front w; word = word }
+
+-- all are rows, and it is the first one that has a roll-up out of range
+pub record IsFirstOut (schema : Schema) (all : List Written) (fault : Fault) : Type 0 where
+  pub rows : List Row
+  pub are : AreRows schema all [] all rows
+  pub number : ℕ
+  pub first : first_out schema rows ≡ Some number
+  pub w : Written
+  pub written : slice_get all number ≡ Some w
+  pub is : fault ≡ record { place = place_of_row schema (take number all) w; word = Word.BadCell }
+
+abbrev pub IsFirstFault : Schema → List Written → Fault → Type 0
+IsFirstFault schema all fault = IsFirstWrong schema all fault ⊎ IsFirstOut schema all fault
 
 -- ---- a seed
 

@@ -6,6 +6,8 @@ mod fault;
 mod keys;
 mod laws;
 mod made;
+mod places;
+mod rolled;
 mod row;
 mod seed;
 mod written;

@@ -1,5 +1,6 @@
 -- A seed is these rows, or has this first fault: in one way, and not both.
-use Rattle.std.proofs.Common.{◌≡◌, inl, inr, ℕ, Bool, true, false, List, [], ◌∷◌, ◌++◌, length, slice_get, None, Some, refl, sym, ap, ap₂, ◌∙◌, subst, append_assoc, append-nil}
+use Rattle.std.proofs.Common.{◌≡◌, inl, inr, ℕ, ◌+◌, Bool, true, false, List, [], ◌∷◌, ◌++◌, length, take, slice_get, None, Some, refl, sym, ap, ap₂, ◌∙◌, subst, append_assoc, append-nil}
+use Rattle.std.specs.List.{position_from}
 use Rattle.std.proofs.lemmas.Option.{same_Some, none-some}
 use Rattle.apex_num.specs.declared.cell.Cell.TheVariants.{Id}
 use Rattle.apex_schema.specs.declared.schema.Object.{Object}
@@ -7,12 +8,13 @@ use Rattle.apex_schema.specs.declared.schema.Schema.{Schema}
 use Rattle.apex_rows.specs.declared.row.Row.{Row}
 use Rattle.fault_words.specs.declared.fault.Fault.{Fault}
 use Rattle.fault_words.specs.declared.fault.FaultWord.{FaultWord}
+use Rattle.fault_words.specs.declared.fault.FaultWord.TheVariants.{BadCell}
 use Rattle.number_methods.specs.Laws.{DecimalOfText}
 use Rattle.schema_plans.specs.Schemas.{numbered}
 use Rattle.row_cells.specs.Rows.{Known, IsRow, some_unknown}
 use Rattle.seed_rows.specs.Written.{Written}
 use Rattle.seed_rows.specs.Words.{word_of}
-use Rattle.seed_rows.specs.Seeds.{or_default, object_at, IsSeedRow, IsWordOf, IsWrong, AreRows, IsSeed, IsFirstFault, place_of_row}
+use Rattle.seed_rows.specs.Seeds.{or_default, object_at, IsSeedRow, IsWordOf, IsWrong, AreRows, IsRolled, AreRolled, IsSeed, is_out, has_out, first_out, IsFirstWrong, IsFirstOut, IsFirstFault, place_of_row}
 use Rattle.tenant_front.proofs.Cells.{row_once}
 
 same_id : (a b : List ℕ) → Some (Some (Id a)) ≡ Some (Some (Id b)) → a ≡ b
@@ -132,18 +134,59 @@ module _ (decimal : DecimalOfText) (schema : Schema) (all : List Written) where
       let row : r ≡ q = seed_row_once before u q r k.0 h.0.0 in
       not_all (before ++ q ∷ []) front w rest rows others word (on before q r rows front w word row h.0.1 h.1) k.1
 
+  -- ---- roll-ups
+
+  module _ (plain : List Row) where
+    row_cells_once : (p row other : Row) → IsRolled schema plain p row → IsRolled schema plain p other → other ≡ row
+    row_cells_once p row other h k =
+        let eo : other.object ≡ row.object = k.object ∙ sym h.object in
+        let ei : other.id ≡ row.id = k.id ∙ sym h.id in
+        let ec : other.cells ≡ row.cells = let e = sym k.cells ∙ h.cells in cc in
+        λ i. record { object = eo i; id = ei i; cells = ec i }
+
+    rolled_once : (ps rows others : List Row) → AreRolled schema plain ps rows → AreRolled schema plain ps others → others ≡ rows
+    rolled_once [] rows others h k = k ∙ sym h
+    rolled_once (p ∷ ps) [] others h k = absurd h
+    rolled_once (p ∷ ps) (r ∷ rows) [] h k = absurd k
+    rolled_once (p ∷ ps) (r ∷ rows) (q ∷ others) h k = ap₂ (λ x l. x ∷ l) (row_cells_once p r q h.0 k.0) (rolled_once ps rows others h.1 k.1)
+
+    none_out : (ps rows : List Row) (n : ℕ) → AreRolled schema plain ps rows → position_from (has_out schema plain) n ps ≡ None
+    none_out [] rows n h = refl
+    none_out (p ∷ ps) [] n h = absurd h
+    none_out (p ∷ ps) (r ∷ rows) n (here, rest) = rw (ap is_out here.cells) (none_out ps rows (n + 1) rest)
+
   -- ---- seeds
 
   pub seed_once : (rows others : List Row) → IsSeed schema all rows → IsSeed schema all others → others ≡ rows
-  seed_once rows others h k = rows_once [] all rows others h k
+  seed_once rows others (plain, are, rolled) (plain', are', rolled') =
+      let same : plain' ≡ plain = rows_once [] all plain plain' are are' in rolled_once plain plain rows others rolled (subst (λ l. AreRolled schema l l others) same rolled')
 
-  pub seed_fault_once : (fault other : Fault) → IsFirstFault schema all fault → IsFirstFault schema all other → other ≡ fault
-  seed_fault_once fault other f g =
+  abbrev told : List Written → Written → FaultWord → Fault
+  told front w word = record { place = place_of_row schema front w; word = word }
+
+  wrong_fault_once : (fault other : Fault) → IsFirstWrong schema all fault → IsFirstWrong schema all other → other ≡ fault
+  wrong_fault_once fault other f g =
       let s = stop_once [] f.front g.front f.w g.w f.rest g.rest f.rows g.rows f.word g.word (sym f.parts ∙ g.parts) (f.before, f.wrong) (g.before, g.wrong) in
       g.is ∙ ap (λ l. told l g.w g.word) s.0 ∙ ap (λ v. told f.front v g.word) s.1 ∙ ap (told f.front f.w) s.2 ∙ sym f.is
-    where
-      told : List Written → Written → FaultWord → Fault
-      told front w word = record { place = place_of_row schema front w; word = word }
+
+  out_once : (fault other : Fault) → IsFirstOut schema all fault → IsFirstOut schema all other → other ≡ fault
+  out_once fault other f g =
+      let rows : g.rows ≡ f.rows = rows_once [] all f.rows g.rows f.are g.are in
+      let number : g.number ≡ f.number = same_Some g.number f.number (sym g.first ∙ ap (first_out schema) rows ∙ f.first) in
+      let w : g.w ≡ f.w = same_Some g.w f.w (sym g.written ∙ ap (slice_get all) number ∙ f.written) in
+      g.is ∙ ap₂ (λ n v. told (take n all) v BadCell) number w ∙ sym f.is
+
+  -- where something is wrong with a row, they aren't all rows
+  no_rows : (rows : List Row) (fault : Fault) → AreRows schema all [] all rows → IsFirstWrong schema all fault → ⊥
+  no_rows rows fault h f = not_all [] f.front f.w f.rest f.rows rows f.word (f.before, f.wrong) (subst (λ l. AreRows schema all [] l rows) f.parts h)
+
+  pub seed_fault_once : (fault other : Fault) → IsFirstFault schema all fault → IsFirstFault schema all other → other ≡ fault
+  seed_fault_once fault other (inl f) (inl g) = wrong_fault_once fault other f g
+  seed_fault_once fault other (inl f) (inr g) = absurd (no_rows g.rows fault g.are f)
+  seed_fault_once fault other (inr f) (inl g) = absurd (no_rows f.rows other f.are g)
+  seed_fault_once fault other (inr f) (inr g) = out_once fault other f g
 
   pub seed_or_fault : (rows : List Row) (fault : Fault) → IsSeed schema all rows → IsFirstFault schema all fault → ⊥
-  seed_or_fault rows fault h f = not_all [] f.front f.w f.rest f.rows rows f.word (f.before, f.wrong) (subst (λ l. AreRows schema all [] l rows) f.parts h)
+  seed_or_fault rows fault (plain, are, rolled) (inl f) = no_rows plain fault are f
+  seed_or_fault rows fault (plain, are, rolled) (inr f) =
+      let same : plain ≡ f.rows = rows_once [] all f.rows plain f.are are in none-some f.number (sym (none_out plain plain rows 0 rolled) ∙ ap (first_out schema) same ∙ f.first)

@@ -123,8 +123,7 @@ fn rest_of(
 }
 
 /// What a tenant of a bundle is; or its first fault, in this order: that of its schema, of its rules, of the users of its
-/// sessions, of the texts of its units in their order, of their code in their order, of its seed. Roll-ups of the seed are
-/// null until they are built.
+/// sessions, of the texts of its units in their order, of their code in their order, of its seed.
 pub fn front(alloc: Global, plan: &TenantPlan) -> Result<TenantPart, FrontFault>
     requires { length plan.now.schema.users ≤ 1000000 }
     ensures { MatchResult result (spec.IsPart plan.now) (spec.NoPart plan.now) }

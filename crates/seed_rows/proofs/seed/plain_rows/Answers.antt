@@ -4,7 +4,7 @@ use Rattle.seed_rows.specs.Seeds.{place_of_row}
 use Rattle.seed_rows.specs.Rows.{FaultAt, NoSeedRow, IsOnlySeedRow}
 use Rattle.seed_rows.specs.Views.{all_as_written, as_written}
 use Rattle.seed_rows.proofs.SeedSteps.{OnlyRows, row_more, fault_at}
-use Rattle.seed_rows.proofs.seed.rows.Goals as goal
+use Rattle.seed_rows.proofs.seed.plain_rows.Goals as goal
 
 pub returns-in-Err : goal.returns-in-Err
 returns-in-Err c =
